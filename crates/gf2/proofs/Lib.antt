@@ -1,0 +1,10 @@
+pub mod Bits
+pub mod Space
+pub mod Pivot
+pub mod Reduced
+pub mod Rref
+pub mod Pivots
+pub mod Additions
+pub mod Products
+pub mod Adjoin
+pub mod Inverse

@@ -1,0 +1,5 @@
+pub mod Rows
+pub mod Reduced
+pub mod Rref
+pub mod Additions
+pub mod Inverse
