@@ -1,8 +1,8 @@
 -- Windows part the columns, so that each pivot counts once; a window has at most as many pivots as columns; and so the bound on the additions.
-use mathlib.Core.Path.{_≡_, refl, sym, ap, ap₂, _∙_}
+use mathlib.Core.Path.{_≡_, refl, sym, ap, _∙_}
 use mathlib.Core.Bool.{Bool, true, false, _&&_}
 use mathlib.Core.List.{List, [], _∷_}
-use Prim.Native.Nat.{ℕ, zero, suc, _+_, _-_, _*_, _/_, _%_, _^_, _≤_, _<_, min}
+use Prim.Native.Nat.{ℕ, zero, suc, _+_, _-_, _*_, _%_, _^_, _≤_, _<_, min}
 use native.Mathlib.Decide.{ℕ-discrete, decLt}
 use native.Mathlib.Nat.{mod-lt, div-add-mod', suc-mul, mul-suc, zero-mul, mul-le-mul-right, add-zero}
 use native.Mathlib.Omega.{arith}
@@ -10,7 +10,7 @@ use borrow.Author.Tests.{lt-ltb, le-ltb, le-leb, lt-leb}
 use lib.Dec.{leb, ltb}
 use lib.ListN.{length, getD}
 use lib.Pow.{pow-pos, pow-mono}
-use Rattle.gf2.specs.Rows.{row, SameRowSpace}
+use Rattle.gf2.specs.Rows.{SameRowSpace}
 use Rattle.gf2.specs.Reduced.{Reduced, pivots}
 use Rattle.gf2.specs.Additions.{windows, count, within, inWindow, totalTo, total, tableAdditions, additions}
 use Rattle.gf2.proofs.Pivots.{Rising, pivots-rising, same-pivots}

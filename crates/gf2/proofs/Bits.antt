@@ -1,7 +1,7 @@
 -- Rows by their columns: a sum's columns, when two rows are the same, the columns of 2 ^ c, of the low part and of the high part.
 use mathlib.Core.Path.{_≡_, refl, sym, ap, _∙_}
 use mathlib.Core.Logic.{_≢_, _⊎_, inl, inr}
-use Prim.Native.Nat.{ℕ, zero, suc, _+_, _*_, _/_, _%_, _^_, _≤_, _<_}
+use Prim.Native.Nat.{ℕ, zero, suc, _+_, _/_, _%_, _^_, _≤_, _<_}
 use native.Mathlib.Nat.{lt-of-lt-of-le, mul-div-cancel-left, mul-mod-right, one-mul, mod-lt, zero-div, div-one, div-div-eq-div-mul, pow-succ', div-eq-of-lt, zero-lt-suc, div-lt-iff-lt-mul}
 use native.Mathlib.Numerals.{add-one}
 use native.Mathlib.Omega.{arith}

@@ -2,7 +2,7 @@
 -- A row of the reduced form names on its right rows of A whose sum stands on its left: so the right half times A is the identity. The rows of
 -- [A | I] are sums of rows of the reduced form in turn: so A times the right half is too.
 use mathlib.Core.Path.{_≡_, refl, sym, ap, ap₂, _∙_}
-use mathlib.Core.Logic.{_≢_, _⊎_, inl, inr, _↔_}
+use mathlib.Core.Logic.{_⊎_, inl, inr, _↔_}
 use mathlib.Core.Bool.{Bool, true, false, _&&_}
 use mathlib.Core.List.{List, [], _∷_}
 use Prim.Native.Nat.{ℕ, zero, suc, _+_, _/_, _%_, _^_, _<_}
@@ -14,7 +14,7 @@ use lib.Bits.{xor-mod, xor-shr}
 use lib.Dec.{T, eqb, eqb-refl}
 use lib.ListN.{length, length-map}
 use lib.Pow.{pow-lt, shr-lt}
-use Rattle.gf2.specs.Rows.{bit, _⊕_, row, Matrix, combine, RowSpace}
+use Rattle.gf2.specs.Rows.{bit, row, Matrix, combine, RowSpace}
 use Rattle.gf2.specs.Reduced.{Pivot, Reduced, ReducedForm}
 use Rattle.gf2.specs.Inverse.{identity, product, Inverse, adjoin, leftOf, rightOf, same, beginsWithIdentity}
 use Rattle.gf2.proofs.Bits.{bit-ext, bit-mod, bit-mod-above, bit-pow, bit-pow-other}

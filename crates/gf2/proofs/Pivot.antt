@@ -1,5 +1,5 @@
 -- The pivot of a row: there is one exactly if the row is not zero, and only one; and how a cut of the row shows where it stands.
-use mathlib.Core.Path.{_≡_, refl, sym, ap, _∙_}
+use mathlib.Core.Path.{_≡_, refl, sym, _∙_}
 use mathlib.Core.Logic.{_≢_, _⊎_, inl, inr}
 use Prim.Native.Nat.{ℕ, zero, suc, _+_, _-_, _/_, _%_, _^_, _≤_, _<_}
 use native.Mathlib.Decide.{ℕ-discrete, decLt}
@@ -7,7 +7,7 @@ use native.Mathlib.Nat.{le-antisymm}
 use native.Mathlib.Omega.{arith}
 use Rattle.gf2.specs.Rows.{bit}
 use Rattle.gf2.specs.Reduced.{Pivot, zerosIn, pivot}
-use Rattle.gf2.proofs.Bits.{bit-low, bit-suc, bit-of-zero, bit-mod, bit-mod-above, bit-shr, zero-ext, bit-pow, bit-pow-other}
+use Rattle.gf2.proofs.Bits.{bit-low, bit-suc, bit-of-zero, bit-mod, bit-above, bit-mod-above, bit-shr, zero-ext, bit-pow, bit-pow-other}
 
 -- ---- the computed pivot
 
@@ -66,14 +66,6 @@ pivot-cut n q v l f = record { one = bit-mod q n v l ∙ f .one; before = λ c h
 pub pivot-uncut : (n q v : ℕ) → q < n → Pivot q (v % 2 ^ n) → Pivot q v
 pivot-uncut n q v l f = record { one = sym (bit-mod q n v l) ∙ f .one; before = λ c h. sym (bit-mod c n v (omega arith)) ∙ f .before c h }
 
--- a cut row has its pivot, if any, left of the cut
-pub cut-pivot : (n q v : ℕ) → Pivot q (v % 2 ^ n) → q < n
-cut-pivot n q v f = go (decLt q n)
-  where
-    go : Dec (q < n) → q < n
-    go (yes l) = l
-    go (no k) = absurd (omega (arith, f .one, bit-mod-above n q v (omega arith)))
-
 -- nothing stands left of column n exactly if the pivot does not
 pub cut-zero : (n q v : ℕ) → n ≤ q → Pivot q v → v % 2 ^ n ≡ 0
 cut-zero n q v l f = zero-ext (v % 2 ^ n) (λ c. go c (decLt c n))
@@ -94,3 +86,11 @@ pub high-not-zero : (n q v : ℕ) → n ≤ q → Pivot q v → v / 2 ^ n ≢ 0
 high-not-zero n q v l f e =
     let i : n + (q - n) ≡ q = omega arith in
     omega (arith, bit-of-zero (q - n), rw (e, i, f .one) at (bit-shr (q - n) n v))
+
+-- the pivot of a row of n columns is one of them
+pub pivot-narrow : (n q v : ℕ) → v < 2 ^ n → Pivot q v → q < n
+pivot-narrow n q v h f = go (decLt q n)
+  where
+    go : Dec (q < n) → q < n
+    go (yes l) = l
+    go (no k) = absurd (omega (arith, f .one, bit-above n q v h (omega arith)))

@@ -2,11 +2,11 @@
 -- has a one left of it; the rows below span the members without that column; the first rows differ by such a member, which is zero at every
 -- pivot below, and so zero.
 use mathlib.Core.Path.{_≡_, refl, sym, ap, _∙_}
-use mathlib.Core.Logic.{_≢_, _⊎_, inl, inr}
+use mathlib.Core.Logic.{_⊎_, inl, inr}
 use mathlib.Core.List.{List, [], _∷_}
 use Prim.Native.Nat.{ℕ, zero, suc, _<_, _≤_}
-use native.Mathlib.Decide.{ℕ-discrete, decLt}
-use native.Mathlib.Nat.{suc-inj, le-antisymm}
+use native.Mathlib.Decide.{decLt}
+use native.Mathlib.Nat.{le-antisymm}
 use native.Mathlib.Omega.{arith}
 use lib.Bits.{xor-zero-r}
 use lib.ListN.{length}
@@ -22,11 +22,12 @@ reduced-nil = record { last = λ i j h e. refl; rising = λ i j p q h f g. no-pi
 
 -- a column has one pivot
 pub pivot-row : (R : List ℕ) → Reduced R → (i k p : ℕ) → Pivot p (row R i) → Pivot p (row R k) → k ≡ i
-pivot-row R hR i k p f g = go (ℕ-discrete k i)
+pivot-row R hR i k p f g = go (decLt i k) (decLt k i)
   where
-    go : Dec (k ≡ i) → k ≡ i
-    go (yes e) = e
-    go (no n) = absurd (omega (arith, hR .alone i k p f n, g .one))
+    go : Dec (i < k) → Dec (k < i) → k ≡ i
+    go (yes l) _ = absurd (omega (arith, hR .rising i k p p l f g))
+    go (no l) (yes m) = absurd (omega (arith, hR .rising k i p p m g f))
+    go (no l) (no m) = omega arith
 
 -- ---- the first row and the rows below it
 
@@ -35,7 +36,7 @@ module _ (r : ℕ) (M : List ℕ) (hM : Reduced (r ∷ M)) where
   reduced-tail = record {
     last = λ i j h. hM .last (suc i) (suc j) (omega arith);
     rising = λ i j p q h. hM .rising (suc i) (suc j) p q (omega arith);
-    alone = λ i j p f n. hM .alone (suc i) (suc j) p f (λ e. n (suc-inj e));
+    alone = λ i j p f n. hM .alone (suc i) (suc j) p f (omega arith);
   }
 
   -- a zero row on top: there is nothing but zero

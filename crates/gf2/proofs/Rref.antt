@@ -1,6 +1,6 @@
 -- The computed reduced form is one: `rref L` is reduced, as long as L, and has L's row space. A new row is first cleared by the rows of a reduced
 -- list, then put among them by its pivot, and the rows above it are cleared by it.
-use mathlib.Core.Path.{_≡_, refl, sym, ap, _∙_}
+use mathlib.Core.Path.{_≡_, refl, ap, _∙_}
 use mathlib.Core.Logic.{_≢_, _⊎_, inl, inr}
 use mathlib.Core.Bool.{Bool, true, false, _||_, _&&_, not}
 use mathlib.Core.List.{List, [], _∷_}
@@ -190,7 +190,7 @@ reduced-cons r M hM z a b = record { last = last; rising = rising; alone = alone
     alone zero zero p f n = absurd (n refl)
     alone zero (suc j) p f n = a p f j p (omega arith)
     alone (suc i) zero p f n = b i p f
-    alone (suc i) (suc j) p f n = hM .alone i j p f (λ e. n (ap suc e))
+    alone (suc i) (suc j) p f n = hM .alone i j p f (omega arith)
 
 -- the rows below have no one up to the pivot
 tail-low : (r : ℕ) (M : List ℕ) → Reduced (r ∷ M) → (p : ℕ) → Pivot p r → (j c : ℕ) → c ≤ p → bit c (row M j) ≡ 0

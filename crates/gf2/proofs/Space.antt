@@ -1,8 +1,8 @@
 -- Sums of rows, the row space, and what leaves it as it is: adding to a row a sum of others, exchanging two rows.
-use mathlib.Core.Path.{_≡_, refl, sym, ap, _∙_, subst}
+use mathlib.Core.Path.{_≡_, refl, sym, _∙_, subst}
 use mathlib.Core.Logic.{_≢_, _⊎_, inl, inr}
 use mathlib.Core.List.{List, [], _∷_, map}
-use Prim.Native.Nat.{ℕ, zero, suc, _*_, _/_, _%_, _^_, _≤_, _<_}
+use Prim.Native.Nat.{ℕ, zero, suc, _/_, _%_, _^_, _<_}
 use native.Mathlib.Decide.{ℕ-discrete, decLt}
 use native.Mathlib.Nat.{zero-lt-suc, pow-succ', mul-div-cancel-left, mul-mod-right}
 use native.Mathlib.Omega.{arith}
@@ -10,8 +10,8 @@ use lib.Bits.{differ, xor-self, xor-zero-l, xor-zero-r, xor-lt}
 use lib.ListN.{List·getD-eq-default, length-set, length, set}
 use lib.Pow.{pow-pos}
 use lib.Seq.{getD-set-same, getD-set-other}
-use Rattle.gf2.specs.Rows.{bit, _⊕_, row, Matrix, pick, combine, RowSpace, SameRowSpace}
-use Rattle.gf2.proofs.Bits.{digit-cases, half-lt, bit-low, bit-suc, bit-xor, bit-mod, bit-mod-above, bit-pow, bit-pow-other, differ-zero, differ-self, xor-last, xor-half, xor-back, xor-four, eq-of-xor}
+use Rattle.gf2.specs.Rows.{bit, _⊕_, row, pick, combine, RowSpace, SameRowSpace}
+use Rattle.gf2.proofs.Bits.{digit-cases, half-lt, bit-low, bit-suc, bit-xor, bit-mod, bit-pow, bit-pow-other, differ-zero, differ-self, xor-last, xor-half, xor-back, xor-four, eq-of-xor}
 
 -- ---- a row that counts or not
 

@@ -1,0 +1,6 @@
+pub mod Found
+pub mod Meeting
+pub mod Solution
+pub mod Known
+pub mod Lists
+pub mod Named

@@ -1,0 +1,1 @@
+// Packets and the images that meet them: known blocks, contradictions. Definitions and theorems only.
