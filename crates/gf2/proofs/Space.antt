@@ -10,7 +10,7 @@ use lib.Bits.{differ, xor-self, xor-zero-l, xor-zero-r, xor-lt}
 use lib.ListN.{List·getD-eq-default, length-set, length, set}
 use lib.Pow.{pow-pos}
 use lib.Seq.{getD-set-same, getD-set-other}
-use Rattle.gf2.specs.Rows.{bit, _⊕_, row, pick, combine, RowSpace, SameRowSpace}
+use Rattle.gf2.specs.Rows.{bit, _⊕_, row, swapped, pick, combine, RowSpace, SameRowSpace}
 use Rattle.gf2.proofs.Bits.{digit-cases, half-lt, bit-low, bit-suc, bit-xor, bit-mod, bit-pow, bit-pow-other, differ-zero, differ-self, xor-last, xor-half, xor-back, xor-four, eq-of-xor}
 
 -- ---- a row that counts or not
@@ -203,7 +203,7 @@ pub add-row : (L : List ℕ) (i j : ℕ) → i < length L → j ≢ i → SameRo
 add-row L i j h n = add-sum L i (row L j) h (space-other L i 0 j n)
 
 -- so does exchanging two rows
-pub swap-rows : (L : List ℕ) (i j : ℕ) → i < length L → j < length L → SameRowSpace (set (set L i (row L j)) j (row L i)) L
+pub swap-rows : (L : List ℕ) (i j : ℕ) → i < length L → j < length L → SameRowSpace (swapped i j L) L
 swap-rows L i j hi hj =
     same-rows N L
     (each-set (RowSpace L) K j (row L i) hk (space-row L i) (λ k n. each-set (RowSpace L) L i (row L j) hi (space-row L j) (λ m o. space-row L m) k))

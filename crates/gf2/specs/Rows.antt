@@ -4,7 +4,7 @@ use mathlib.Core.Path.{_≡_}
 use mathlib.Core.List.{List, [], _∷_}
 use Prim.Native.Nat.{ℕ, zero, suc, _/_, _%_, _^_, _<_}
 use lib.Bits.{bitXor}
-use lib.ListN.{length, getD}
+use lib.ListN.{length, getD, set, take, drop}
 
 infixl 65 _⊕_
 -- column c of the row v
@@ -18,6 +18,14 @@ a ⊕ b = bitXor a b
 -- row i; past the last row, zero
 abbrev pub row : List ℕ → ℕ → ℕ
 row M i = getD M i 0
+
+-- the s rows from row r on
+abbrev pub part : ℕ → ℕ → List ℕ → List ℕ
+part r s M = take s (drop r M)
+
+-- rows i and k exchanged
+abbrev pub swapped : ℕ → ℕ → List ℕ → List ℕ
+swapped i k M = set (set M i (row M k)) k (row M i)
 
 -- a matrix of that many rows and columns: no row has a one past the last column
 pub record Matrix (rows columns : ℕ) (M : List ℕ) : Type 0 where

@@ -1,0 +1,38 @@
+-- Words of 64 bits, and the rows that a buffer of words holds. Everything is said for any number of words a row.
+use mathlib.Core.List.{List, [], _∷_}
+use mathlib.Core.Logic.{_⊎_}
+use Prim.Native.Nat.{ℕ, zero, suc, _+_, _*_, _/_, _%_, _^_, _≤_, _<_}
+use lib.Bits.{bitXor}
+use lib.ListN.{getD, take, drop}
+
+-- the words that a row of that many columns takes
+abbrev pub wordsOf : ℕ → ℕ
+wordsOf columns = (columns + 63) / 64
+
+-- each word fits 64 bits
+abbrev pub Fit : List ℕ → Type 0
+Fit ws = (i : ℕ) → getD ws i 0 < 2 ^ 64
+
+-- the row that words hold, as one number: the first word is the lowest
+abbrev pub value : List ℕ → ℕ
+value [] = 0
+value (x ∷ xs) = value xs * 2 ^ 64 + x
+
+-- the n rows of w words that stand at the start of a buffer, without gaps
+unfoldable pub rowsOf : ℕ → ℕ → List ℕ → List ℕ
+rowsOf w zero m = []
+rowsOf w (suc n) m = value (take w m) ∷ rowsOf w n (drop w m)
+
+-- word by word; what the second list lacks counts as zero
+abbrev pub xors : List ℕ → List ℕ → List ℕ
+xors [] ys = []
+xors (x ∷ xs) [] = x ∷ xs
+xors (x ∷ xs) (y ∷ ys) = bitXor x y ∷ xors xs ys
+
+-- two parts of w words that do not overlap
+abbrev pub Apart : ℕ → ℕ → ℕ → Type 0
+Apart a b w = (a + w ≤ b) ⊎ (b + w ≤ a)
+
+-- the k columns of a row from column c on, as one number
+abbrev pub windowBits : ℕ → ℕ → ℕ → ℕ
+windowBits c k v = v / 2 ^ c % 2 ^ k

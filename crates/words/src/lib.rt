@@ -1,0 +1,1 @@
+// The words of a buffer as rows, each one number. Definitions and theorems only.
