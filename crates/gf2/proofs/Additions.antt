@@ -17,13 +17,13 @@ use Rattle.gf2.proofs.Pivots.{Rising, pivots-rising, same-pivots}
 
 -- ---- columns a to e - 1
 
-count-in : (a e p : ℕ) → a ≤ p → p < e → count (leb a p && ltb p e) ≡ 1
+pub count-in : (a e p : ℕ) → a ≤ p → p < e → count (leb a p && ltb p e) ≡ 1
 count-in a e p h l = rw (le-leb a p h, lt-ltb p e l)
 
-count-left : (a e p : ℕ) → p < a → count (leb a p && ltb p e) ≡ 0
+pub count-left : (a e p : ℕ) → p < a → count (leb a p && ltb p e) ≡ 0
 count-left a e p h = rw (lt-leb a p h)
 
-count-right : (a e p : ℕ) → e ≤ p → count (leb a p && ltb p e) ≡ 0
+pub count-right : (a e p : ℕ) → e ≤ p → count (leb a p && ltb p e) ≡ 0
 count-right a e p h = rw (le-ltb p e h) (go (leb a p))
   where
     go : (b : Bool) → count (b && false) ≡ 0

@@ -11,7 +11,7 @@ use Rattle.gf2.proofs.Bits.{bit-low, bit-suc, bit-of-zero, bit-mod, bit
 
 -- ---- the computed pivot
 
-pivot-suc : (p v : ℕ) → v % 2 ≡ 0 → Pivot p (v / 2) → Pivot (suc p) v
+pub pivot-suc : (p v : ℕ) → v % 2 ≡ 0 → Pivot p (v / 2) → Pivot (suc p) v
 pivot-suc p v o f = record { one = bit-suc p v ∙ f .one; before = low }
   where
     low : (c : ℕ) → c < suc p → bit c v ≡ 0

@@ -35,10 +35,16 @@ unfolding pick
 pick-sum zero x y = sym (xor-zero-r 0)
 pick-sum (suc b) x y = refl
 
-pick-map : (f : ℕ → ℕ) → f 0 ≡ 0 → (b r : ℕ) → pick b (f r) ≡ f (pick b r)
+pub pick-map : (f : ℕ → ℕ) → f 0 ≡ 0 → (b r : ℕ) → pick b (f r) ≡ f (pick b r)
 unfolding pick
 pick-map f z zero r = sym z
 pick-map f z (suc b) r = refl
+
+-- what holds of zero and of the row
+pub pick-each : (P : ℕ → Type 0) (b r : ℕ) → P 0 → P r → P (pick b r)
+unfolding pick
+pick-each P zero r z h = z
+pick-each P (suc b) r z h = h
 
 -- ---- sums of rows
 
@@ -111,16 +117,12 @@ space-xor L u v p q = (p .0 ⊕ q .0, rw (combine-xor (p .0) (q .0) L, p .1, q .
 
 -- what holds of zero, of each row, and of a sum if of its parts, holds in the whole row space
 pub space-ind : (P : ℕ → Type 0) (L : List ℕ) → P 0 → ((a b : ℕ) → P a → P b → P (a ⊕ b)) → ((i : ℕ) → P (row L i)) → (v : ℕ) → RowSpace L v → P v
-unfolding combine pick
+unfolding combine
 space-ind P L z s h v (c, e) = subst P e (go c L h)
   where
     go : (c : ℕ) (L : List ℕ) → ((i : ℕ) → P (row L i)) → P (combine c L)
     go c [] h = z
-    go c (r ∷ L) h = s (pick (c % 2) r) (combine (c / 2) L) (one (c % 2)) (go (c / 2) L (λ i. h (suc i)))
-      where
-        one : (b : ℕ) → P (pick b r)
-        one zero = z
-        one (suc b) = h 0
+    go c (r ∷ L) h = s (pick (c % 2) r) (combine (c / 2) L) (pick-each P (c % 2) r z (h 0)) (go (c / 2) L (λ i. h (suc i)))
 
 -- a list whose rows are in the row space of M has no other row space
 pub space-sub : (L M : List ℕ) → ((i : ℕ) → RowSpace M (row L i)) → (v : ℕ) → RowSpace L v → RowSpace M v

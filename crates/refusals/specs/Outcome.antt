@@ -1,0 +1,48 @@
+-- The number of each refusal, and the first of several checks that refuses.
+use mathlib.Core.Bool.{Bool, true, false}
+use Prim.Native.Nat.{ℕ}
+use Rattle.refusals.specs.declared.Refusal.{Refusal}
+use Rattle.refusals.specs.declared.Refusal.the-variants.{TooManyRows, BadColumns, BadK, WrongLength, DirtyPadding, ShortRoom, BadBlocks, NotSquare, NoInverse, Contradictory, TooWide, NotBelow, WrongBuffer, BundleSize, EntryCount, ContentsCut, BadKind, BadShape, WrongOffset, BodyPast, BytesLeft, ShortOutput, BundleOver}
+use Rattle.refusals.specs.declared.Outcome.{Outcome}
+use Rattle.refusals.specs.declared.Outcome.the-variants.{Done, Refused}
+
+abbrev pub numberOf : Refusal → ℕ
+numberOf TooManyRows = 1
+numberOf BadColumns = 2
+numberOf BadK = 3
+numberOf WrongLength = 4
+numberOf DirtyPadding = 5
+numberOf ShortRoom = 6
+numberOf BadBlocks = 7
+numberOf NotSquare = 8
+numberOf NoInverse = 9
+numberOf Contradictory = 10
+numberOf TooWide = 11
+numberOf NotBelow = 12
+numberOf WrongBuffer = 13
+numberOf BundleSize = 20
+numberOf EntryCount = 21
+numberOf ContentsCut = 22
+numberOf BadKind = 23
+numberOf BadShape = 24
+numberOf WrongOffset = 25
+numberOf BodyPast = 26
+numberOf BytesLeft = 27
+numberOf ShortOutput = 28
+numberOf BundleOver = 29
+
+-- 0 where nothing is refused
+abbrev pub outcomeNumber : Outcome → ℕ
+outcomeNumber Done = 0
+outcomeNumber (Refused r) = numberOf r
+
+-- a check: this refusal, exactly if the test holds
+abbrev pub refuseIf : Bool → Refusal → Outcome
+refuseIf true r = Refused r
+refuseIf false r = Done
+
+infixl 30 _andThen_
+-- checks in order: the first that refuses
+abbrev pub _andThen_ : Outcome → Outcome → Outcome
+Done andThen o = o
+(Refused r) andThen o = Refused r

@@ -1,0 +1,184 @@
+// The refusals, and the checks that give them: each check once, total and exact for all numbers.
+ghost use mathlib.Core.Path.{_≡_};
+ghost use mathlib.Core.Bool.{not, _||_};
+ghost use Prim.Native.Nat.{_+_, _*_, _/_, _^_};
+ghost use lib.Dec.{eqb, ltb};
+ghost use lib.ListN.{length};
+ghost use Rattle.words.specs.Words.{wordsOf};
+ghost use Rattle.refusals.specs.Outcome.{numberOf, outcomeNumber, refuseIf, _andThen_};
+ghost use Rattle.refusals.specs.Checks.{tooManyRows, badColumns, badK, wrongLength, shortRoom, notBelow};
+
+pub enum Refusal {
+    TooManyRows,
+    BadColumns,
+    BadK,
+    WrongLength,
+    DirtyPadding,
+    ShortRoom,
+    BadBlocks,
+    NotSquare,
+    NoInverse,
+    Contradictory,
+    TooWide,
+    NotBelow,
+    WrongBuffer,
+    BundleSize,
+    EntryCount,
+    ContentsCut,
+    BadKind,
+    BadShape,
+    WrongOffset,
+    BodyPast,
+    BytesLeft,
+    ShortOutput,
+    BundleOver,
+}
+
+pub enum Outcome {
+    Done,
+    Refused(Refusal),
+}
+
+// the number that the paper gives a refusal
+pub fn number(r: Refusal) -> u8
+    ensures { λ n. ⌜ n ≡ numberOf r ⌝ }
+{
+    match r {
+        Refusal::TooManyRows => 1,
+        Refusal::BadColumns => 2,
+        Refusal::BadK => 3,
+        Refusal::WrongLength => 4,
+        Refusal::DirtyPadding => 5,
+        Refusal::ShortRoom => 6,
+        Refusal::BadBlocks => 7,
+        Refusal::NotSquare => 8,
+        Refusal::NoInverse => 9,
+        Refusal::Contradictory => 10,
+        Refusal::TooWide => 11,
+        Refusal::NotBelow => 12,
+        Refusal::WrongBuffer => 13,
+        Refusal::BundleSize => 20,
+        Refusal::EntryCount => 21,
+        Refusal::ContentsCut => 22,
+        Refusal::BadKind => 23,
+        Refusal::BadShape => 24,
+        Refusal::WrongOffset => 25,
+        Refusal::BodyPast => 26,
+        Refusal::BytesLeft => 27,
+        Refusal::ShortOutput => 28,
+        Refusal::BundleOver => 29,
+    }
+}
+
+impl Outcome {
+    // the first of the two that refuses
+    pub fn and_then(self, next: Outcome) -> Outcome
+        ensures { λ r. ⌜ r ≡ self andThen next ⌝ }
+    {
+        match self {
+            Outcome::Done => next,
+            Outcome::Refused(x) => Outcome::Refused(x),
+        }
+    }
+
+    // 0, or the refusal's number
+    pub fn number(self) -> u8
+        ensures { λ n. ⌜ n ≡ outcomeNumber self ⌝ }
+    {
+        match self {
+            Outcome::Done => 0,
+            Outcome::Refused(x) => number(x),
+        }
+    }
+}
+
+// the refusal, if the test holds
+fn refuse_if(test: bool, r: Refusal) -> Outcome
+    ensures { λ o. ⌜ o ≡ refuseIf test r ⌝ }
+{
+    if test {
+        Outcome::Refused(r)
+    } else {
+        Outcome::Done
+    }
+}
+
+// the words of a row
+pub fn words(columns: usize) -> usize
+    ensures { λ w. ⌜ w ≡ wordsOf columns ⌝ }
+{
+    if columns % 64 == 0 {
+        columns / 64
+    } else {
+        columns / 64 + 1
+    }
+}
+
+pub fn too_many_rows(rows: usize) -> Outcome
+    ensures { λ r. ⌜ r ≡ tooManyRows rows ⌝ }
+{
+    refuse_if(512 < rows, Refusal::TooManyRows)
+}
+
+pub fn bad_columns(columns: usize) -> Outcome
+    ensures { λ r. ⌜ r ≡ badColumns columns ⌝ }
+{
+    refuse_if(columns == 0, Refusal::BadColumns).and_then(refuse_if(
+        1024 < columns,
+        Refusal::BadColumns,
+    ))
+}
+
+pub fn bad_k(k: usize) -> Outcome
+    ensures { λ r. ⌜ r ≡ badK k ⌝ }
+{
+    refuse_if(k == 0, Refusal::BadK).and_then(refuse_if(8 < k, Refusal::BadK))
+}
+
+// whether len is rows x w, without multiplying
+fn is_product(len: usize, rows: usize, w: usize) -> bool
+    ensures { λ r. ⌜ r ≡ eqb len (rows * w) ⌝ }
+{
+    if w == 0 {
+        return len == 0;
+    }
+    if len % w == 0 {
+        return len / w == rows;
+    }
+    false
+}
+
+pub fn wrong_length(rows: usize, columns: usize, len: usize) -> Outcome
+    ensures { λ r. ⌜ r ≡ wrongLength rows columns len ⌝ }
+{
+    refuse_if(!is_product(len, rows, words(columns)), Refusal::WrongLength)
+}
+
+// whether room is less than (more + 2^k) x w, without multiplying
+fn is_short(room: usize, more: usize, k: usize, w: usize) -> bool
+    ensures { λ r. ⌜ r ≡ ltb room ((more + 2 ^ k) * w) ⌝ }
+{
+    if w == 0 {
+        return false;
+    }
+    if 63 < k {
+        return true;
+    }
+    let rows = room / w;
+    if rows < more {
+        return true;
+    }
+    rows - more < 1 << k
+}
+
+pub fn short_room(more: usize, k: usize, columns: usize, room: usize) -> Outcome
+    ensures { λ r. ⌜ r ≡ shortRoom more k columns room ⌝ }
+{
+    refuse_if(is_short(room, more, k, words(columns)), Refusal::ShortRoom)
+}
+
+pub fn not_below(i: usize, count: usize) -> Outcome
+    ensures { λ r. ⌜ r ≡ notBelow i count ⌝ }
+{
+    refuse_if(count <= i, Refusal::NotBelow)
+}

@@ -1,0 +1,5 @@
+-- The laws of words and rows.
+pub mod Parts
+pub mod Value
+pub mod Rows
+pub mod Window
