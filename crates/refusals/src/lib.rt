@@ -1,12 +1,11 @@
 // The refusals, and the checks that give them: each check once, total and exact for all numbers.
 ghost use mathlib.Core.Path.{_≡_};
-ghost use mathlib.Core.Bool.{not, _||_};
-ghost use Prim.Native.Nat.{_+_, _*_, _/_, _^_};
+ghost use Prim.Native.Nat.{_+_, _*_, _%_, _^_, _≤_, _<_};
 ghost use lib.Dec.{eqb, ltb};
 ghost use lib.ListN.{length};
-ghost use Rattle.words.specs.Words.{wordsOf};
+ghost use Rattle.words.specs.Words.{wordsOf, rowsOf};
 ghost use Rattle.refusals.specs.Outcome.{numberOf, outcomeNumber, refuseIf, _andThen_};
-ghost use Rattle.refusals.specs.Checks.{tooManyRows, badColumns, badK, wrongLength, shortRoom, notBelow};
+ghost use Rattle.refusals.specs.Checks.{tooManyRows, badColumns, badK, wrongLength, shortRoom, notBelow, narrow, holdsRows, dirtyPadding, viewChecks, reductionChecks};
 
 pub enum Refusal {
     TooManyRows,
@@ -181,4 +180,70 @@ pub fn not_below(i: usize, count: usize) -> Outcome
     ensures { λ r. ⌜ r ≡ notBelow i count ⌝ }
 {
     refuse_if(count <= i, Refusal::NotBelow)
+}
+
+fn odd_bits(columns: usize) -> usize
+    ensures { λ s. ⌜ s ≡ columns % 64 ⌝ }
+{
+    columns % 64
+}
+
+// whether no row has a one past its last column
+fn no_padding(m: &[u64], w: usize, rows: usize, columns: usize) -> bool
+    requires { ⌜ (rows * w ≤ length (now m)) × (w ≡ wordsOf columns) × (0 < w) ⌝ }
+    ensures { λ r. ⌜ r ≡ narrow columns (rowsOf w rows (now (m .entry))) ⌝ }
+{
+    let s = odd_bits(columns);
+    if s == 0 {
+        return true;
+    }
+    let mut i = 0;
+    while i < rows {
+        if m[i * w + (w - 1)] >> s != 0 {
+            return false;
+        }
+        i += 1;
+    }
+    true
+}
+
+// whether the buffer starts with that many rows, and none of them has a one past its last column
+pub fn holds(m: &[u64], rows: usize, columns: usize) -> bool
+    ensures { λ r. ⌜ r ≡ holdsRows rows columns (now (m .entry)) ⌝ }
+{
+    let w = words(columns);
+    if w == 0 {
+        return true;
+    }
+    if m.len() / w < rows {
+        return false;
+    }
+    no_padding(m, w, rows, columns)
+}
+
+pub fn dirty_padding(m: &[u64], rows: usize, columns: usize) -> Outcome
+    ensures { λ r. ⌜ r ≡ dirtyPadding rows columns (now (m .entry)) ⌝ }
+{
+    refuse_if(!holds(m, rows, columns), Refusal::DirtyPadding)
+}
+
+// the row view's checks
+pub fn view(rows: usize, columns: usize, len: usize, i: usize) -> Outcome
+    ensures { λ r. ⌜ r ≡ viewChecks rows columns len i ⌝ }
+{
+    let o = too_many_rows(rows).and_then(bad_columns(columns));
+    o.and_then(wrong_length(rows, columns, len))
+        .and_then(not_below(i, rows))
+}
+
+// the reduction's checks
+pub fn reduction(m: &[u64], rows: usize, columns: usize, k: usize, room: usize) -> Outcome
+    ensures { λ r. ⌜ r ≡ reductionChecks rows columns k (now (m .entry)) room ⌝ }
+{
+    let o = too_many_rows(rows)
+        .and_then(bad_columns(columns))
+        .and_then(bad_k(k));
+    let p = o.and_then(wrong_length(rows, columns, m.len()))
+        .and_then(short_room(0, k, columns, room));
+    p.and_then(dirty_padding(m, rows, columns))
 }
