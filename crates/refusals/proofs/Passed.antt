@@ -1,4 +1,4 @@
--- What the checks say: they refuse nothing exactly if each of their conditions fails. And a refusal follows from its number.
+-- What the checks say: they refuse nothing exactly if each of their conditions fails.
 use mathlib.Core.Path.{_≡_, refl, sym, ap, ap₂, _∙_}
 use mathlib.Core.Logic.{_↔_}
 use mathlib.Core.Bool.{Bool, true, false, not, _&&_}
@@ -7,16 +7,49 @@ use Prim.Native.Nat.{ℕ, zero, suc, _+_, _*_, _^_, _≤_, _<_}
 use native.Mathlib.Nat.{zero-add}
 use native.Mathlib.Omega.{arith}
 use borrow.Author.Tests.{ltb-false, eqb-false, eqb-true, leb-true, leb-false, lt-ltb, le-ltb, lt-leb, le-leb, eq-eqb, ne-eqb}
-use lib.Dec.{eqb, ltb, leb}
+use lib.Dec.{eqb, ltb, leb, lit<}
 use lib.ListN.{length}
 use Rattle.gf2.specs.Rows.{row}
 use Rattle.words.specs.Words.{wordsOf, rowsOf}
 use Rattle.refusals.specs.declared.Refusal.{Refusal}
+use Rattle.refusals.specs.declared.Refusal.the-variants.{TooManyRows, BadColumns, BadK, WrongLength, DirtyPadding, ShortRoom, BadBlocks, NotSquare, NoInverse, Contradictory, TooWide, NotBelow, WrongBuffer, BundleSize, EntryCount, ContentsCut, BadKind, BadShape, WrongOffset, BodyPast, BytesLeft, ShortOutput, BundleOver}
 use Rattle.refusals.specs.declared.Outcome.{Outcome}
 use Rattle.refusals.specs.declared.Outcome.the-variants.{Done, Refused}
-use Rattle.refusals.specs.Outcome.{refuseIf, _andThen_}
+use Rattle.refusals.specs.Outcome.{numberOf, outcomeNumber, refuseIf, _andThen_}
 use Rattle.refusals.specs.Checks.{tooManyRows, badColumns, badK, wrongLength, shortRoom, notBelow, narrow, holdsRows, dirtyPadding, viewChecks, reductionChecks, ReductionPasses, ViewPasses}
 use Rattle.refusals.proofs.Padding.{narrow-all, narrow-row}
+
+-- ---- numbers
+
+-- a refusal's number is not 0
+number-pos : (r : Refusal) → 0 < numberOf r
+number-pos TooManyRows = lit< tt
+number-pos BadColumns = lit< tt
+number-pos BadK = lit< tt
+number-pos WrongLength = lit< tt
+number-pos DirtyPadding = lit< tt
+number-pos ShortRoom = lit< tt
+number-pos BadBlocks = lit< tt
+number-pos NotSquare = lit< tt
+number-pos NoInverse = lit< tt
+number-pos Contradictory = lit< tt
+number-pos TooWide = lit< tt
+number-pos NotBelow = lit< tt
+number-pos WrongBuffer = lit< tt
+number-pos BundleSize = lit< tt
+number-pos EntryCount = lit< tt
+number-pos ContentsCut = lit< tt
+number-pos BadKind = lit< tt
+number-pos BadShape = lit< tt
+number-pos WrongOffset = lit< tt
+number-pos BodyPast = lit< tt
+number-pos BytesLeft = lit< tt
+number-pos ShortOutput = lit< tt
+number-pos BundleOver = lit< tt
+
+pub number-zero : (o : Outcome) → outcomeNumber o ≡ 0 → o ≡ Done
+number-zero Done e = refl
+number-zero (Refused r) e = absurd (omega (arith, number-pos r))
 
 -- ---- one check, and checks in order
 
@@ -37,7 +70,7 @@ then-done (Refused r) p e = absurd (refused-not e)
 pub done-then : {o p : Outcome} → o ≡ Done → p ≡ Done → o andThen p ≡ Done
 done-then e f = ap₂ _andThen_ e f
 
-not-false : (b : Bool) → not b ≡ false → b ≡ true
+pub not-false : (b : Bool) → not b ≡ false → b ≡ true
 not-false true e = refl
 not-false false e = sym e
 
@@ -49,7 +82,7 @@ few-done rows e = ltb-false 512 rows (if-done (ltb 512 rows) _ e)
 done-few : (rows : ℕ) → rows ≤ 512 → tooManyRows rows ≡ Done
 done-few rows h = done-if _ (le-ltb 512 rows h)
 
-columns-done : (columns : ℕ) → badColumns columns ≡ Done → (0 < columns) × (columns ≤ 1024)
+pub columns-done : (columns : ℕ) → badColumns columns ≡ Done → (0 < columns) × (columns ≤ 1024)
 columns-done columns e =
     let t = then-done (refuseIf (eqb columns 0) _) (refuseIf (ltb 1024 columns) _) e in
     (pos (eqb-false columns 0 (if-done (eqb columns 0) _ (t .0))), ltb-false 1024 columns (if-done (ltb 1024 columns) _ (t .1)))
@@ -57,10 +90,10 @@ columns-done columns e =
     pos : (columns ≡ 0 → ⊥) → 0 < columns
     pos h = omega arith
 
-done-columns : (columns : ℕ) → 0 < columns → columns ≤ 1024 → badColumns columns ≡ Done
+pub done-columns : (columns : ℕ) → 0 < columns → columns ≤ 1024 → badColumns columns ≡ Done
 done-columns columns h l = done-then (done-if _ (ne-eqb columns 0 (λ e. omega arith))) (done-if _ (le-ltb 1024 columns l))
 
-k-done : (k : ℕ) → badK k ≡ Done → (0 < k) × (k ≤ 8)
+pub k-done : (k : ℕ) → badK k ≡ Done → (0 < k) × (k ≤ 8)
 k-done k e =
     let t = then-done (refuseIf (eqb k 0) _) (refuseIf (ltb 8 k) _) e in
     (pos (eqb-false k 0 (if-done (eqb k 0) _ (t .0))), ltb-false 8 k (if-done (ltb 8 k) _ (t .1)))
@@ -68,7 +101,7 @@ k-done k e =
     pos : (k ≡ 0 → ⊥) → 0 < k
     pos h = omega arith
 
-done-k : (k : ℕ) → 0 < k → k ≤ 8 → badK k ≡ Done
+pub done-k : (k : ℕ) → 0 < k → k ≤ 8 → badK k ≡ Done
 done-k k h l = done-then (done-if _ (ne-eqb k 0 (λ e. omega arith))) (done-if _ (le-ltb 8 k l))
 
 length-done : (rows columns len : ℕ) → wrongLength rows columns len ≡ Done → len ≡ rows * wordsOf columns

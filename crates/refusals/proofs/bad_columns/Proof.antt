@@ -1,3 +1,4 @@
+-- The two tests in order.
 use borrow.Author.Needs.{needs}
 use Rattle.refusals.proofs.bad_columns.Statement.{statement}
 use Rattle.refusals.proofs.bad_columns.Tie as tie

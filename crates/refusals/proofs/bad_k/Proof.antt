@@ -1,3 +1,4 @@
+-- The two tests in order.
 use borrow.Author.Needs.{needs}
 use Rattle.refusals.proofs.bad_k.Statement.{statement}
 use Rattle.refusals.proofs.bad_k.Tie as tie

@@ -1,3 +1,4 @@
+-- The refusal by the test.
 use borrow.Author.Needs.{needs}
 use Rattle.refusals.proofs.dirty_padding.Statement.{statement}
 use Rattle.refusals.proofs.dirty_padding.Tie as tie

@@ -1,3 +1,4 @@
+-- Rows of no words are zero; a buffer that is too short holds fewer rows; else it is the padding that decides.
 use denote.Ref.{now}
 use mathlib.Core.Path.{sym, ap, _∙_}
 use Prim.Native.Nat.{ℕ}

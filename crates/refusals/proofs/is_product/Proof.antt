@@ -1,3 +1,4 @@
+-- len is rows x w exactly if w divides it and the quotient is rows.
 use Rattle.refusals.proofs.Division.{product-none, product-exact, product-not}
 use borrow.Author.Needs.{needs}
 use Rattle.refusals.proofs.is_product.Statement.{statement}

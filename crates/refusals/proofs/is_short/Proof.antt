@@ -1,3 +1,4 @@
+-- room is less than need x w exactly if room divided by w is less than need.
 use Rattle.refusals.proofs.Division.{short-none, short-far, short-few, short-rest}
 use borrow.Author.Needs.{needs}
 use Rattle.refusals.proofs.is_short.Statement.{statement}

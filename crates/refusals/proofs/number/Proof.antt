@@ -1,3 +1,4 @@
+-- Each arm gives the number that `numberOf` gives its variant.
 use mathlib.Core.Path.{sym, ap}
 use Rattle.refusals.specs.Outcome.{numberOf}
 use borrow.Author.Needs.{needs}

@@ -1,3 +1,4 @@
+-- The checks in order.
 use mathlib.Core.Path.{ap₂, _∙_}
 use Rattle.refusals.specs.Outcome.{_andThen_}
 use borrow.Author.Needs.{needs}

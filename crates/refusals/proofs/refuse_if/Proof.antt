@@ -1,3 +1,4 @@
+-- By cases on the test.
 use mathlib.Core.Path.{sym, ap}
 use mathlib.Core.Bool.{Bool}
 use Rattle.refusals.specs.Outcome.{refuseIf}

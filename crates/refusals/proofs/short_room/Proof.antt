@@ -1,3 +1,4 @@
+-- The refusal by the test.
 use borrow.Author.Needs.{needs}
 use Rattle.refusals.proofs.short_room.Statement.{statement}
 use Rattle.refusals.proofs.short_room.Tie as tie

@@ -1,3 +1,4 @@
+-- The checks in order.
 use borrow.Author.Needs.{needs}
 use Rattle.refusals.proofs.view.Statement.{statement}
 use Rattle.refusals.proofs.view.Tie as tie

@@ -1,3 +1,4 @@
+-- The refusal by the test.
 use borrow.Author.Needs.{needs}
 use Rattle.refusals.proofs.wrong_length.Statement.{statement}
 use Rattle.refusals.proofs.wrong_length.Tie as tie

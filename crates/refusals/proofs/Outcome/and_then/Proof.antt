@@ -1,3 +1,4 @@
+-- By cases on the first outcome.
 use mathlib.Core.Path.{sym, ap}
 use Rattle.refusals.specs.Outcome.{_andThen_}
 use Rattle.refusals.specs.declared.Outcome.{Outcome}

@@ -1,3 +1,4 @@
+-- By cases on the outcome.
 use mathlib.Core.Path.{sym, ap, _∙_}
 use Rattle.refusals.specs.Outcome.{outcomeNumber}
 use borrow.Author.Needs.{needs}

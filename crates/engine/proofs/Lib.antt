@@ -1,0 +1,9 @@
+pub mod ByteLaws
+pub mod Clears
+pub mod Codebook
+pub mod Fitting
+pub mod NumberLaws
+pub mod Steps
+pub mod Sums
+pub mod Widths
+pub mod Windows

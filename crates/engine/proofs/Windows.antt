@@ -1,0 +1,280 @@
+-- A window: once its rows are cleared the matrix is what the search foresaw. All windows: after the last the matrix is reduced, and the pivots and additions are its own.
+use mathlib.Core.Path.{_≡_, refl, sym, ap, ap₂, _∙_, subst}
+use mathlib.Core.Logic.{_⊎_, inl, inr}
+use mathlib.Core.List.{List, _++_}
+use Prim.Native.Nat.{ℕ, zero, suc, _+_, _-_, _*_, _^_, _<_, _≤_}
+use native.Mathlib.Decide.{decLt}
+use native.Mathlib.Nat.{suc-mul, lt-of-lt-of-le, le-trans, mul-le-mul-right, mul-suc, zero-mul}
+use native.Mathlib.Numerals.{add-one}
+use native.Mathlib.Omega.{arith}
+use lib.Bits.{xor-zero-r}
+use lib.ListN.{length, getD, take, drop, replicate, length-drop, length-replicate, getD-replicate, take-append-drop}
+use lib.Pow.{pow-mono}
+use lib.Seq.{length-paste, ext-getD, take-add, getD-take, getD-drop, length-take-le, drop-drop}
+use Rattle.gf2.specs.Rows.{bit, _⊕_, row, part, combine, RowSpace, SameRowSpace}
+use Rattle.gf2.specs.Reduced.{pivots}
+use Rattle.gf2.specs.Additions.{windows, totalTo, tableAdditions}
+use Rattle.gf2.proofs.Bits.{eq-of-xor}
+use Rattle.gf2.proofs.Space.{combine-zero, space-ind, same-refl, same-trans, same-narrow}
+use Rattle.gf2.proofs.Pivot.{pivot-unique, pivot-narrow}
+use Rattle.gf2.proofs.Pivots.{pivots-are}
+use Rattle.gf2.proofs.Products.{tabulate-row, tabulate-length}
+use Rattle.gf2.proofs.Additions.{windows-end}
+use Rattle.method.specs.Stage.{Upto}
+use Rattle.method.proofs.Upto.{upto-start, upto-past, upto-done, upto-zero}
+use Rattle.method.proofs.Pending.{pending-clear, pending-same}
+use Rattle.method.proofs.Counting.{total-more}
+use Rattle.engine.specs.Core.{Reduction}
+use Rattle.words.specs.Words.{rowsOf}
+use Rattle.words.proofs.Parts.{length-part, part-same, paste-before, drop-past}
+use Rattle.words.proofs.Rows.{row-ends, rows-past}
+use Rattle.engine.proofs.Sums.{row-put}
+use Rattle.engine.specs.Stage.{rowAt, putRow, Stage, Search, Marks, Numbers, cleared, Windowed, Passed}
+
+-- ---- one window
+
+module _ (n c k base r : ℕ) (M h o cols : List ℕ) (S : Search n c k k base r M h o cols) where
+  recorded : (i : ℕ) → i < base + r → getD cols i 0 < c + k
+  recorded i l = let u = S .pending .upto .used i l in omega (arith, u .1, pivot-unique (getD cols i 0) (u .0) (row (S .F) i) (S .pivots i l) (u .2))
+
+  pub marks : Marks c k base r cols
+  marks = record { low = λ b l. S .here (base + b) (omega arith) (omega arith); high = λ b l. recorded (base + b) (omega arith); full = S .full }
+
+  -- no pivot: nothing is to be cleared
+  pub no-pivots : length M ≡ n → r ≡ 0 → M ≡ S .F
+  no-pivots lM e =
+      ext-getD 0 M (S .F) (lM ∙ sym (S .size))
+      (λ i l. eq-of-xor (row M i) (row (S .F) i) (nothing (row M i ⊕ row (S .F) i) (subst (λ (q : ℕ). RowSpace (part base q (S .F)) (row M i ⊕ row (S .F) i)) e (S .pending .diff i))))
+    where
+      nothing : (v : ℕ) → RowSpace (part base 0 (S .F)) v → v ≡ 0
+      nothing = space-ind (λ (v : ℕ). v ≡ 0) (part base 0 (S .F)) refl (λ a b p q. ap₂ (λ (x y : ℕ). x ⊕ y) p q) (λ i. refl)
+
+  -- each row cleared by its table row
+  pub cleared-all : (H : List ℕ) → length M ≡ n → Numbers n base r M H cols → cleared H (part base r M) M ≡ S .F
+  unfolding cleared
+  cleared-all H lM N =
+      ext-getD 0 (cleared H (part base r M) M) (S .F) (tabulate-length (length M) f ∙ lM ∙ sym (S .size))
+      (λ i l. let hi : i < length M = omega (arith, tabulate-length (length M) f) in tabulate-row (length M) f i hi ∙ go i (omega arith) (decLt i base) (decLt i (base + r)))
+    where
+      f : ℕ → ℕ
+      f i = row M i ⊕ combine (getD H i 0) (part base r M)
+
+      other : (i : ℕ) → i < n → (i < base) ⊎ (base + r ≤ i) → f i ≡ row (S .F) i
+      other i l out =
+          pending-clear (c + k) base r M (S .F) (S .pending) i (getD H i 0) (λ b m e. away b m e out)
+          (λ b q m p. N .named i b l out m
+          ∙ ap (λ (x : ℕ). bit x (row M i)) (pivot-unique (getD cols (base + b) 0) q (row M (base + b)) (rw (S .pending .mine (base + b) (omega arith) (omega arith)) at (S .pivots (base + b) (omega arith))) p))
+        where
+          away : (b : ℕ) → b < r → i ≡ base + b → (i < base) ⊎ (base + r ≤ i) → ⊥
+          away b m e (inl x) = omega arith
+          away b m e (inr x) = omega arith
+
+      go : (i : ℕ) → i < n → Dec (i < base) → Dec (i < base + r) → f i ≡ row (S .F) i
+      go i l (yes a) _ = other i l (inl a)
+      go i l (no a) (yes b) =
+          rw (N .own i (omega arith) b, combine-zero (part base r M), xor-zero-r (row M i)) (sym (S .pending .mine i (omega arith) b))
+      go i l (no a) (no b) = other i l (inr (omega arith))
+
+  pub windowed : (L N cols₀ : List ℕ) → SameRowSpace L M → N ≡ S .F → ((i : ℕ) → i < base → getD cols i 0 ≡ getD cols₀ i 0) → Windowed n c k base r L N cols₀ cols
+  windowed L N cols₀ s e old = record {
+    stage = subst (λ (X : List ℕ). Stage n (c + k) (base + r) X cols) (sym e)
+        (record { upto = S .pending .upto; pivots = S .pivots; none = S .none; room = S .room; whole = S .whole });
+    space = same-trans s (subst (λ (X : List ℕ). SameRowSpace M X) (sym e) (pending-same (c + k) base r M (S .F) (S .pending)));
+    old = old;
+    here = S .here;
+    few = S .few;
+  }
+
+-- ---- the loop over the windows
+
+-- a recorded pivot stands left of where the reduction is
+stage-left : (n c r : ℕ) (M cols : List ℕ) → Stage n c r M cols → (i : ℕ) → i < r → getD cols i 0 < c
+stage-left n c r M cols t i h = let u = t .upto .used i h in omega (arith, u .1, pivot-unique (getD cols i 0) (u .0) (row M i) (t .pivots i h) (u .2))
+
+pub passed-start : (n columns k : ℕ) (L cols : List ℕ) → n ≤ length cols → ((i : ℕ) → i < length cols → getD cols i 0 ≡ 65535) → Passed n columns k 0 0 0 L L cols
+unfolding totalTo
+passed-start n columns k L cols l none = record {
+  stage = record {
+    upto = subst (λ (q : ℕ). Upto q 0 L) (sym (zero-mul k)) (upto-start L);
+    pivots = λ i h. absurd (omega arith);
+    none = λ i a h. none i h;
+    room = omega arith;
+    whole = l;
+  };
+  space = same-refl L;
+  counted = refl;
+}
+
+module _ (n columns k kw j base r added a : ℕ) (L M N cols cols′ : List ℕ) (hk : 0 < k) (le : kw ≤ k) (last : (j * k + kw ≡ columns) ⊎ (kw ≡ k)) (clean : (i : ℕ) → row L i < 2 ^ columns)
+    (P : Passed n columns k j base added L M cols) (W : Windowed n (j * k) kw base r M N cols cols′) (e : a ≡ tableAdditions r) where
+  next : suc j * k ≡ j * k + k
+  next = suc-mul j k
+
+  space : SameRowSpace L N
+  space = same-trans (P .space) (W .space)
+
+  clean′ : (i : ℕ) → row N i < 2 ^ columns
+  clean′ = same-narrow columns L N space clean
+
+  -- the pivots found before, and those of this window
+  abbrev ps : List ℕ
+  ps = take base cols
+
+  abbrev qs : List ℕ
+  qs = take r (drop base cols′)
+
+  room′ : base + r ≤ length cols′
+  room′ = omega (arith, W .stage .room, W .stage .whole)
+
+  room : base ≤ length cols
+  room = omega (arith, P .stage .room, P .stage .whole)
+
+  split : take (base + r) cols′ ≡ ps ++ qs
+  split =
+      take-add base r cols′
+      ∙ ap (λ (X : List ℕ). X ++ qs)
+      (ext-getD 0 (take base cols′) (take base cols) (length-take-le base cols′ (omega (arith, room′)) ∙ sym (length-take-le base cols room))
+      (λ i l. let h : i < base = omega (arith, length-take-le base cols′ (omega (arith, room′))) in getD-take base cols′ i 0 h ∙ W .old i h ∙ sym (getD-take base cols i 0 h)))
+
+  lqs : length qs ≡ r
+  lqs = length-take-le r (drop base cols′) (omega (arith, length-drop base cols′, room′))
+
+  at-q : (i : ℕ) → i < r → getD qs i 0 ≡ getD cols′ (base + i) 0
+  at-q i h = getD-take r (drop base cols′) i 0 h ∙ getD-drop base cols′ i 0
+
+  counted : added + a ≡ totalTo tableAdditions k columns (take (base + r) cols′) (j + 1)
+  counted =
+      ap₂ (λ (x q : ℕ). x + q) (P .counted) (e ∙ ap tableAdditions (sym lqs))
+      ∙ sym (total-more tableAdditions k columns j ps qs
+      (λ i l. let h : i < base = omega (arith, length-take-le base cols room) in rw (getD-take base cols i 0 h) (stage-left n (j * k) base M cols (P .stage) i h))
+      (λ i l. let h : i < r = omega (arith, lqs) in rw (at-q i h) (W .here (base + i) (omega arith) (omega arith)))
+      (λ i l. let h : i < r = omega (arith, lqs) in rw (at-q i h) (omega (arith, stage-left n (j * k + kw) (base + r) N cols′ (W .stage) (base + i) (omega arith))))
+      (λ i l. let h : i < r = omega (arith, lqs) in rw (at-q i h) (pivot-narrow columns (getD cols′ (base + i) 0) (row N (base + i)) (clean′ (base + i)) (W .stage .pivots (base + i) (omega arith)))))
+      ∙ ap₂ (λ (X : List ℕ) (q : ℕ). totalTo tableAdditions k columns X q) (sym split) (sym (add-one j))
+
+  pub passed-next : Passed n columns k (j + 1) (base + r) (added + a) L N cols′
+  passed-next = record {
+    stage = record {
+      upto = subst (λ (q : ℕ). Upto (q * k) (base + r) N) (sym (add-one j)) (go last);
+      pivots = W .stage .pivots;
+      none = W .stage .none;
+      room = W .stage .room;
+      whole = W .stage .whole;
+    };
+    space = space;
+    counted = counted;
+  }
+    where
+      go : (j * k + kw ≡ columns) ⊎ (kw ≡ k) → Upto (suc j * k) (base + r) N
+      go (inl f) = upto-past (j * k + kw) (suc j * k) (base + r) columns N (W .stage .upto) (omega (arith, next)) (omega arith) clean′
+      go (inr f) = subst (λ (q : ℕ). Upto q (base + r) N) (ap (λ (q : ℕ). j * k + q) f ∙ sym next) (W .stage .upto)
+
+-- all windows done
+pub finished : (n columns k ranked added : ℕ) (L N cols : List ℕ) → 0 < k → length N ≡ n → length L ≡ n → ((i : ℕ) → row L i < 2 ^ columns)
+    → Passed n columns k (windows k columns) ranked added L N cols → Reduction k columns L N ranked added cols
+finished n columns k ranked added L N cols hk lN lL clean P = record {
+  form = record { size = lN ∙ sym lL; reduced = upto-done c ranked N (t .upto) wide; space = P .space };
+  rank-is = sym (ap length piv ∙ lr);
+  additions-are = P .counted ∙ ap (λ (X : List ℕ). totalTo tableAdditions k columns X (windows k columns)) (sym piv);
+  pivots-are =
+      sym (take-append-drop ranked cols)
+      ∙ ap₂ (λ (X Y : List ℕ). X ++ Y) (sym piv) (rest ∙ ap (λ (q : ℕ). replicate (length cols - q) 65535) (sym (ap length piv ∙ lr)));
+}
+  where
+    t : Stage n (windows k columns * k) ranked N cols
+    t = P .stage
+
+    c : ℕ
+    c = windows k columns * k
+
+    wide : (i : ℕ) → row N i < 2 ^ (windows k columns * k)
+    wide i = lt-of-lt-of-le (same-narrow columns L N (P .space) clean i) (pow-mono (windows-end k columns hk))
+
+    lr : length (take ranked cols) ≡ ranked
+    lr = length-take-le ranked cols (omega (arith, t .room, t .whole))
+
+    piv : pivots N ≡ take ranked cols
+    piv = pivots-are N (take ranked cols) (record {
+      used = λ i l. rw (getD-take ranked cols i 0 (omega (arith, lr))) (t .pivots i (omega (arith, lr)));
+      rest = λ i l. upto-zero c ranked N (t .upto) wide i (omega (arith, lr));
+    })
+
+    rest : drop ranked cols ≡ replicate (length cols - ranked) 65535
+    rest = ext-getD 0 (drop ranked cols) (replicate (length cols - ranked) 65535) (length-drop ranked cols ∙ sym (length-replicate {A = ℕ} (length cols - ranked) 65535))
+        (λ i l. let h : ranked + i < length cols = omega (arith, length-drop ranked cols) in
+        getD-drop ranked cols i 0 ∙ t .none (ranked + i) (omega arith) h ∙ sym (getD-replicate {A = ℕ} (length cols - ranked) i 65535 0 (omega arith)))
+
+-- ---- sizes
+
+pub table-room : (r k w : ℕ) → r ≤ k → 2 ^ r * w ≤ 2 ^ k * w
+table-room r k w h = mul-le-mul-right w (pow-mono {i = r} {j = k} h)
+
+pub drop-more : (a b : ℕ) (x y : List ℕ) → a ≤ b → drop a x ≡ drop a y → drop b x ≡ drop b y
+drop-more a b x y h e =
+    let q : a + (b - a) ≡ b = omega arith in
+    ap (λ (n : ℕ). drop n x) (sym q) ∙ sym (drop-drop (b - a) a x) ∙ ap (drop (b - a)) e ∙ drop-drop (b - a) a y ∙ ap (λ (n : ℕ). drop n y) q
+
+pub steps-small : (j k b : ℕ) → 0 < k → j * k < b → j < b
+steps-small j zero b h l = absurd (omega arith)
+steps-small j (suc k) b h l = omega (arith, mul-suc j k)
+
+pub pow-small : (r : ℕ) → r ≤ 8 → 2 ^ r ≤ 256
+pow-small r h = pow-mono {i = r} {j = 8} h
+
+pub no-additions : 0 ≡ tableAdditions 0
+unfolding tableAdditions
+no-additions = refl
+
+-- ---- the table's first row is there, and it stands in the room for the table
+
+pub window-first : (w base : ℕ) (t m t′ : List ℕ) → 2 ^ 1 * w ≤ length t → base * w + w ≤ length m → t′ ≡ putRow t 1 w (rowAt base w m) → rowAt 1 w t′ ≡ rowAt base w m
+window-first w base t m t′ ht hm e = ap (rowAt 1 w) e ∙ row-put 1 w t (rowAt base w m) (omega arith) (length-part (base * w) w m hm)
+
+pub first-past : (w k base : ℕ) (t m t′ : List ℕ) → 2 ^ 1 * w ≤ 2 ^ k * w → 2 ^ k * w ≤ length t → base * w + w ≤ length m → t′ ≡ putRow t 1 w (rowAt base w m) → drop (2 ^ k * w) t′ ≡ drop (2 ^ k * w) t
+first-past w k base t m t′ h ht hm e =
+    ap (drop (2 ^ k * w)) e ∙ drop-past t (1 * w) (rowAt base w m) w (2 ^ k * w) (omega arith) (omega arith) (omega (arith, length-part (base * w) w m hm))
+
+-- ---- matrix and table in one room: n rows, and a or b behind them
+
+pub room-less : (w n a b len : ℕ) → a ≤ b → (n + b) * w ≤ len → (n + a) * w ≤ len
+room-less w n a b len h l = le-trans (mul-le-mul-right w (omega arith)) l
+
+pub room-rows : (w n b len : ℕ) → (n + b) * w ≤ len → n * w ≤ len
+room-rows w n b len l = le-trans (mul-le-mul-right w (omega arith)) l
+
+pub room-drop : (w n b : ℕ) (x y : List ℕ) → drop (n * w) x ≡ drop (n * w) y → drop ((n + b) * w) x ≡ drop ((n + b) * w) y
+room-drop w n b x y = drop-more (n * w) ((n + b) * w) x y (mul-le-mul-right w (omega arith))
+
+module _ (w n base : ℕ) (m m′ : List ℕ) (h : base < n) (l : (n + 2) * w ≤ length m) (e : m′ ≡ putRow m (n + 1) w (rowAt base w m)) where
+  last-row : (n + 1) * w + w ≤ length m
+  last-row = omega (arith, row-ends (n + 1) (n + 2) w (omega arith))
+
+  base-row : base * w + w ≤ length m
+  base-row = omega (arith, row-ends base (n + 2) w (omega arith))
+
+  lx : length (rowAt base w m) ≡ w
+  lx = length-part (base * w) w m base-row
+
+  apart-rows : base * w + w ≤ (n + 1) * w
+  apart-rows = row-ends base (n + 1) w (omega arith)
+
+  -- the first table row is the first pivot row, and the matrix is as it was
+  pub room-first : (rowAt (n + 1) w m′ ≡ rowAt base w m′) × (rowsOf w n m′ ≡ rowsOf w n m)
+  room-first = (
+    ap (rowAt (n + 1) w) e ∙ row-put (n + 1) w m (rowAt base w m) last-row lx
+        ∙ sym (ap (rowAt base w) e ∙ part-same (putRow m (n + 1) w (rowAt base w m)) m (base * w) w
+        (omega (arith, base-row, length-paste m ((n + 1) * w) (rowAt base w m) w last-row (omega (arith, lx)))) base-row
+        (λ j hj. paste-before m ((n + 1) * w) (rowAt base w m) w last-row (omega (arith, lx)) (base * w + j) (omega (arith, apart-rows)))),
+    ap (rowsOf w n) e ∙ rows-past w n m ((n + 1) * w) (rowAt base w m) w (mul-le-mul-right w (omega arith)) last-row,
+  )
+
+pub room-first-past : (w n b base : ℕ) (m m′ : List ℕ) → base < n → 2 ≤ b → (n + 2) * w ≤ length m → m′ ≡ putRow m (n + 1) w (rowAt base w m) → drop ((n + b) * w) m′ ≡ drop ((n + b) * w) m
+room-first-past w n b base m m′ h k l e =
+    ap (drop ((n + b) * w)) e
+    ∙ drop-past m ((n + 1) * w) (rowAt base w m) w ((n + b) * w) (row-ends (n + 1) (n + b) w (omega arith)) (omega (arith, row-ends (n + 1) (n + 2) w (omega arith)))
+    (omega (arith, length-part (base * w) w m (omega (arith, row-ends base (n + 2) w (omega arith)))))
+
+-- a table takes at most 255 additions
+pub table-small : (r : ℕ) → r ≤ 8 → tableAdditions r ≤ 255
+unfolding tableAdditions
+table-small r h = omega (arith, pow-small r h)

@@ -1,0 +1,101 @@
+-- After l turns the first l words of row i are the sums, and those of row j, which is another, are as they were: within-turn.
+use denote.Ref.{now}
+use mathlib.Core.Path.{_≡_, ap, _∙_}
+use Prim.Native.Nat.{ℕ, _-_, _*_, _≤_}
+use lib.ListN.{length}
+use lib.Seq.{paste, paste-zero}
+use Rattle.gf2.specs.Rows.{part}
+use Rattle.words.specs.Words.{xors}
+use Rattle.words.proofs.Parts.{within-turn}
+use Rattle.words.proofs.Rows.{apart}
+use borrow.Author.Needs.{needs}
+use Rattle.engine.proofs.rows.add_within.Statement.{statement}
+use Rattle.engine.proofs.rows.add_within.Tie as tie
+
+abbrev Inv-loop : tie.InvT-loop
+Inv-loop d₀ i j w a b l₀ d l = (d ≡ paste d₀ a (xors (part a w d₀) (part b w d₀)) l) × (l ≤ w) × (length d ≡ length d₀)
+
+abbrev μ-loop : tie.MeasureT-loop
+μ-loop d₀ i j w a b l₀ d l = w - l
+
+mul-a : tie.Need-mul-a Inv-loop μ-loop
+mul-a c = search needs
+
+mul-b : tie.Need-mul-b Inv-loop μ-loop
+mul-b c = search needs
+
+loop-holds : tie.Need-loop-holds Inv-loop μ-loop
+loop-holds c = let g = c .args in (paste-zero (now (g .d)) (g .i * g .w) (xors (part (g .i * g .w) (g .w) (now (g .d))) (part (g .j * g .w) (g .w) (now (g .d)))), search needs, search needs)
+
+add-d : tie.Need-add-d Inv-loop μ-loop
+add-d c = search needs
+
+mul-d : tie.Need-mul-d Inv-loop μ-loop
+mul-d c = search needs
+
+slice-read-d : tie.Need-slice-read-d Inv-loop μ-loop
+slice-read-d c = search needs
+
+add-d-2 : tie.Need-add-d-2 Inv-loop μ-loop
+add-d-2 c = search needs
+
+mul-d-2 : tie.Need-mul-d-2 Inv-loop μ-loop
+mul-d-2 c = search needs
+
+slice-read-d-2 : tie.Need-slice-read-d-2 Inv-loop μ-loop
+slice-read-d-2 c = search needs
+
+add-d-3 : tie.Need-add-d-3 Inv-loop μ-loop
+add-d-3 c = search needs
+
+mul-d-3 : tie.Need-mul-d-3 Inv-loop μ-loop
+mul-d-3 c = search needs
+
+slice-write-d : tie.Need-slice-write-d Inv-loop μ-loop
+slice-write-d c = search needs
+
+add-l : tie.Need-add-l Inv-loop μ-loop
+add-l c = search needs
+
+loop-less : tie.Need-loop-less Inv-loop μ-loop
+loop-less c = search needs
+
+loop-again : tie.Need-loop-again Inv-loop μ-loop
+loop-again c =
+    let s = c .before .before .before in
+    let g = s .before .args in
+    (within-turn (now (g .d)) (s .loop .d) (g .i * g .w) (g .j * g .w) (g .w) (s .loop .l) (s .loop .inv .0) (search needs) (search needs) (apart (g .i) (g .j) (g .w) (s .before .pre .2)), search needs, search needs)
+
+same-length : tie.Need-same-length Inv-loop μ-loop
+same-length c = search needs
+
+returns : tie.Need-returns Inv-loop μ-loop
+returns c =
+    let s = c .before in
+    let g = s .before .args in
+    let e : s .loop .l ≡ g .w = search needs in
+    s .loop .inv .0 ∙ ap (λ (k : ℕ). paste (now (g .d)) (g .i * g .w) (xors (part (g .i * g .w) (g .w) (now (g .d))) (part (g .j * g .w) (g .w) (now (g .d)))) k) e
+
+pub add-within-spec : {M : Type 1} → statement M
+add-within-spec =
+    tie.close
+    (tie.spec
+    Inv-loop
+    μ-loop
+    mul-a
+    mul-b
+    loop-holds
+    add-d
+    mul-d
+    slice-read-d
+    add-d-2
+    mul-d-2
+    slice-read-d-2
+    add-d-3
+    mul-d-3
+    slice-write-d
+    add-l
+    loop-less
+    loop-again
+    same-length
+    returns)

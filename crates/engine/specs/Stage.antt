@@ -1,0 +1,197 @@
+-- What the engine's loops keep, on lists of rows. No public promise cites any of it.
+use mathlib.Core.Path.{_≡_}
+use mathlib.Core.Logic.{_≢_, _⊎_}
+use mathlib.Core.List.{List}
+use Prim.Native.Nat.{ℕ, _+_, _*_, _/_, _^_, _≤_, _<_}
+use lib.ListN.{take, length, getD, set, drop}
+use lib.Seq.{paste}
+use Rattle.gf2.specs.Rows.{bit, _⊕_, row, part, pick, combine, RowSpace, SameRowSpace}
+use Rattle.gf2.specs.Reduced.{Pivot}
+use Rattle.gf2.specs.Additions.{totalTo, tableAdditions}
+use Rattle.gf2.specs.Inverse.{tabulate}
+use Rattle.words.specs.Words.{rowsOf, windowBits}
+use Rattle.method.specs.Stage.{Upto, Pending}
+use Rattle.method.specs.Gray.{gray}
+
+-- ---- rows of words
+
+-- n rows of w words stand at the start of a buffer of len words
+pub record Sizes (w n len : ℕ) : Type 0 where
+  pub fits : n * w ≤ len
+  pub narrow : w ≤ 16
+  pub few : n ≤ 1280
+
+-- the words of row i, and a row put in its place
+abbrev pub rowAt : ℕ → ℕ → List ℕ → List ℕ
+rowAt i w m = part (i * w) w m
+
+abbrev pub putRow : List ℕ → ℕ → ℕ → List ℕ → List ℕ
+putRow m i w x = paste m (i * w) x w
+
+-- the rows have become L, and what stands past them is as it was
+pub record Now (w n : ℕ) (m m′ L : List ℕ) : Type 0 where
+  pub rows : rowsOf w n m′ ≡ L
+  pub past : drop (n * w) m′ ≡ drop (n * w) m
+
+-- ---- between windows
+
+-- columns below c are done; cols has the r pivots found, and 65,535 behind them
+pub record Stage (n c r : ℕ) (M cols : List ℕ) : Type 0 where
+  pub upto : Upto c r M
+  pub pivots : (i : ℕ) → i < r → Pivot (getD cols i 0) (row M i)
+  pub none : (i : ℕ) → r ≤ i → i < length cols → getD cols i 0 ≡ 65535
+  pub room : r ≤ n
+  pub whole : n ≤ length cols
+
+-- ---- the search in the window of k columns from c, which has passed x columns and found s pivots, in rows base to base + s - 1
+
+-- F is the matrix that clearing will give. For each row not yet used, h has the window's bits that it has, and o those that it will have
+pub record Search (n c k x base s : ℕ) (M h o cols : List ℕ) : Type 0 where
+  pub F : List ℕ
+  pub pending : Pending (c + x) base s M F
+  pub size : length F ≡ n
+  pub has : (i : ℕ) → base + s ≤ i → i < n → getD h i 0 ≡ windowBits c k (row M i)
+  pub will : (i : ℕ) → base + s ≤ i → i < n → getD o i 0 ≡ windowBits c k (row F i)
+  pub used : (i : ℕ) → i < base + s → getD o i 0 ≡ 0
+  pub pivots : (i : ℕ) → i < base + s → Pivot (getD cols i 0) (row F i)
+  pub none : (i : ℕ) → base + s ≤ i → i < length cols → getD cols i 0 ≡ 65535
+  pub here : (i : ℕ) → base ≤ i → i < base + s → c ≤ getD cols i 0
+  pub room : base + s ≤ n
+  pub few : s ≤ x
+  pub full : s ≡ x → (b : ℕ) → b < s → getD cols (base + b) 0 ≡ c + b
+  pub whole : n ≤ length cols
+  pub long-h : n ≤ length h
+  pub long-o : n ≤ length o
+
+-- u has a one wherever a number from place `from` on has one
+abbrev pub Union : ℕ → ℕ → List ℕ → ℕ → Type 0
+Union n from o u = (i y : ℕ) → from ≤ i → i < n → bit y u ≡ 0 → bit y (getD o i 0) ≡ 0
+
+-- the first row from place `from` on with a one in column x, or n
+pub record Found (o : List ℕ) (x from n i : ℕ) : Type 0 where
+  pub low : from ≤ i
+  pub high : i ≤ n
+  pub one : i < n → bit x (getD o i 0) ≡ 1
+  pub none : (j : ℕ) → from ≤ j → j < i → bit x (getD o j 0) ≡ 0
+
+-- the first l numbers have been cleared in column x by b
+pub record Swept (x b l : ℕ) (o p : List ℕ) : Type 0 where
+  pub done : (i : ℕ) → i < l → getD p i 0 ≡ getD o i 0 ⊕ pick (bit x (getD o i 0)) b
+  pub rest : (i : ℕ) → l ≤ i → getD p i 0 ≡ getD o i 0
+
+-- the window's pivot rows, each with its own column
+pub record Own (w base s : ℕ) (M cols : List ℕ) : Type 0 where
+  pub wide : (b : ℕ) → b < s → getD cols (base + b) 0 / 64 < w
+  pub one : (b : ℕ) → b < s → bit (getD cols (base + b) 0) (row M (base + b)) ≡ 1
+  pub clean : (b d : ℕ) → b < s → d < s → b ≢ d → bit (getD cols (base + b) 0) (row M (base + d)) ≡ 0
+
+-- row i has become v: pivot rows have been added until their first l columns are zero
+pub record Settled (base s l i : ℕ) (M cols N : List ℕ) : Type 0 where
+  pub v : ℕ
+  pub put : N ≡ set M i v
+  pub space : RowSpace (part base s M) (row M i ⊕ v)
+  pub clear : (b : ℕ) → b < l → bit (getD cols (base + b) 0) v ≡ 0
+
+-- row base + s has been added to those of the first l pivot rows that have a one in column c
+pub record Lifted (c base s l : ℕ) (M N : List ℕ) : Type 0 where
+  pub up : (j : ℕ) → base ≤ j → j < base + l → row N j ≡ row M j ⊕ pick (bit c (row M j)) (row M (base + s))
+  pub kept : (j : ℕ) → (j < base) ⊎ (base + l ≤ j) → row N j ≡ row M j
+
+-- ---- the table
+
+-- the codebook: entry t is t xor t div 2
+abbrev pub Book : List ℕ → Type 0
+Book codes = (t : ℕ) → t < 256 → getD codes t 0 ≡ gray t
+
+-- row j is the sum of the rows of P that j names. Row 0 is never read
+abbrev pub Table : ℕ → List ℕ → (ℕ → ℕ) → Type 0
+Table r P T = (j : ℕ) → 0 < j → j < 2 ^ r → T j ≡ combine j P
+
+-- the same of the codes of steps 1 to t - 1
+abbrev pub Codes : ℕ → List ℕ → (ℕ → ℕ) → Type 0
+Codes t P T = (u : ℕ) → 0 < u → u < t → T (gray u) ≡ combine (gray u) P
+
+-- the recorded pivots of the window of k columns from c
+pub record Marks (c k base r : ℕ) (cols : List ℕ) : Type 0 where
+  pub low : (b : ℕ) → b < r → c ≤ getD cols (base + b) 0
+  pub high : (b : ℕ) → b < r → getD cols (base + b) 0 < c + k
+  pub full : r ≡ k → (b : ℕ) → b < r → getD cols (base + b) 0 ≡ c + b
+
+-- bit b of y says whether x has a one in the column of pivot b, counted from c
+pub record Gathered (c base r : ℕ) (cols : List ℕ) (x y : ℕ) : Type 0 where
+  pub small : y < 2 ^ r
+  pub named : (b : ℕ) → b < r → (q : ℕ) → c + q ≡ getD cols (base + b) 0 → bit b y ≡ bit q x
+
+-- for each row the number of the table row that clears it; 0 for the window's pivot rows
+pub record Numbers (n base r : ℕ) (M o cols : List ℕ) : Type 0 where
+  pub small : (i : ℕ) → i < n → getD o i 0 < 2 ^ r
+  pub own : (i : ℕ) → base ≤ i → i < base + r → getD o i 0 ≡ 0
+  pub named : (i b : ℕ) → i < n → (i < base) ⊎ (base + r ≤ i) → b < r → bit b (getD o i 0) ≡ bit (getD cols (base + b) 0) (row M i)
+
+-- each row with the sum of the rows of P that its number names added to it
+unfoldable pub cleared : List ℕ → List ℕ → List ℕ → List ℕ
+unfolding tabulate
+cleared o P M = tabulate (length M) (λ i. row M i ⊕ combine (getD o i 0) P)
+
+-- what making a table of r rows from base on and clearing by it needs, and what it leaves: table in a slice of its own
+pub record Applies (w n base r : ℕ) (m t o : List ℕ) : Type 0 where
+  pub sizes : Sizes w n (length m)
+  pub rows : base + r ≤ n
+  pub some : 0 < r
+  pub most : r ≤ 8
+  pub table : 2 ^ r * w ≤ length t
+  pub bytes : n ≤ length o
+  pub small : (i : ℕ) → i < n → getD o i 0 < 2 ^ r
+  pub first : rowAt 1 w t ≡ rowAt base w m
+
+pub record Applied (w n base r : ℕ) (m t o m′ t′ : List ℕ) (additions : ℕ) : Type 0 where
+  pub now : Now w n m m′ (cleared o (part base r (rowsOf w n m)) (rowsOf w n m))
+  pub rest : drop (2 ^ r * w) t′ ≡ drop (2 ^ r * w) t
+  pub count : additions ≡ tableAdditions r
+
+-- the same in one room, whose rows from n on are the table
+pub record AppliesIn (w n base r : ℕ) (m o : List ℕ) : Type 0 where
+  pub sizes : Sizes w (n + 2 ^ r) (length m)
+  pub rows : base + r ≤ n
+  pub some : 0 < r
+  pub most : r ≤ 8
+  pub bytes : n ≤ length o
+  pub small : (i : ℕ) → i < n → getD o i 0 < 2 ^ r
+  pub first : rowAt (n + 1) w m ≡ rowAt base w m
+
+pub record AppliedIn (w n base r : ℕ) (m o m′ : List ℕ) (additions : ℕ) : Type 0 where
+  pub rows : rowsOf w n m′ ≡ cleared o (part base r (rowsOf w n m)) (rowsOf w n m)
+  pub rest : drop ((n + 2 ^ r) * w) m′ ≡ drop ((n + 2 ^ r) * w) m
+  pub count : additions ≡ tableAdditions r
+
+-- the table in one room: row j is row n + j
+abbrev pub tableIn : ℕ → ℕ → ℕ → List ℕ → ℕ → ℕ
+tableIn w n r m j = row (rowsOf w (n + 2 ^ r) m) (n + j)
+
+-- ---- what a window leaves: r pivots more
+
+pub record Windowed (n c k base r : ℕ) (L N cols cols′ : List ℕ) : Type 0 where
+  pub stage : Stage n (c + k) (base + r) N cols′
+  pub space : SameRowSpace L N
+  pub old : (i : ℕ) → i < base → getD cols′ i 0 ≡ getD cols i 0
+  pub here : (i : ℕ) → base ≤ i → i < base + r → c ≤ getD cols′ i 0
+  pub few : r ≤ k
+
+-- ---- what all windows together need, and what their loop keeps
+
+pub record Whole (w n columns k : ℕ) (m cols : List ℕ) : Type 0 where
+  pub few : n ≤ 1024
+  pub narrow : w ≤ 16
+  pub wide : columns ≤ 1024
+  pub inside : columns ≤ w * 64
+  pub least : 0 < k
+  pub most : k ≤ 8
+  pub listed : n ≤ length cols
+  pub none : (i : ℕ) → i < length cols → getD cols i 0 ≡ 65535
+  pub clean : (i : ℕ) → row (rowsOf w n m) i < 2 ^ columns
+
+-- after j windows: columns below j * k are done, r pivots found, and their additions counted
+pub record Passed (n columns k j r added : ℕ) (L N cols : List ℕ) : Type 0 where
+  pub stage : Stage n (j * k) r N cols
+  pub space : SameRowSpace L N
+  pub counted : added ≡ totalTo tableAdditions k columns (take r cols) j
