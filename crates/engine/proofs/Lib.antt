@@ -3,6 +3,7 @@ pub mod Clears
 pub mod Codebook
 pub mod Fitting
 pub mod NumberLaws
+pub mod Once
 pub mod Steps
 pub mod Sums
 pub mod Widths

@@ -1,0 +1,50 @@
+-- The reduction's promise leaves no choice: two outcomes that it allows for the same arguments are equal, word for word. And matrix, rank and pivots do not depend on k.
+-- A slice keeps its length, and its words fit 64 bits.
+use mathlib.Core.Path.{_≡_, refl, sym, ap, _∙_, subst}
+use mathlib.Core.List.{List}
+use Prim.Native.Nat.{ℕ, _*_}
+use lib.ListN.{length}
+use Rattle.gf2.specs.Reduced.{rank}
+use Rattle.gf2.proofs.Reduced.{one-reduced-form}
+use Rattle.words.specs.Words.{wordsOf, rowsOf}
+use Rattle.words.proofs.Rows.{rows-one-all}
+use Rattle.refusals.specs.declared.Outcome.{Outcome}
+use Rattle.refusals.specs.declared.Outcome.the-variants.{Done, Refused}
+use Rattle.refusals.specs.Checks.{reductionChecks}
+use Rattle.refusals.proofs.Passed.{reduction-passed}
+use Rattle.engine.proofs.Once.{Slice}
+use Rattle.matrix.specs.declared.Answer.{Answer}
+use Rattle.matrix.specs.Calls.{pivotRecord, reducedAnswer, Reduction, byOutcome, reduction}
+
+module _ (rows columns : ℕ) (m m′ m₂ : List ℕ) (s : Slice m m′) (s₂ : Slice m m₂) where
+  -- the same rows in a buffer of the same size are the same words
+  same-buffer : length m ≡ rows * wordsOf columns → rowsOf (wordsOf columns) rows m′ ≡ rowsOf (wordsOf columns) rows m₂ → m′ ≡ m₂
+  same-buffer l e = rows-one-all (wordsOf columns) rows m′ m₂ (s .fit) (s₂ .fit) (s .size ∙ l) (s₂ .size ∙ l) e
+
+  pub one-reduction : (k : ℕ) (room room′ room₂ : List ℕ) (r r₂ : Answer) → reduction rows columns k m room r m′ room′ → reduction rows columns k m room r₂ m₂ room₂
+      → (r ≡ r₂) × (m′ ≡ m₂) × (room′ ≡ room₂)
+  one-reduction k room room′ room₂ r r₂ = go (reductionChecks rows columns k m (length room)) refl
+    where
+      go : (o : Outcome) → reductionChecks rows columns k m (length room) ≡ o → byOutcome o rows columns k m room r m′ room′ → byOutcome o rows columns k m room r₂ m₂ room₂
+          → (r ≡ r₂) × (m′ ≡ m₂) × (room′ ≡ room₂)
+      go (Refused x) e a b = (a .0 ∙ sym (b .0), a .1 ∙ sym (b .1), a .2 ∙ sym (b .2))
+      go Done e a b =
+          let n = one-reduced-form (a .reduced) (b .reduced) in
+          (a .answered ∙ ap (reducedAnswer k columns) n ∙ sym (b .answered), same-buffer (reduction-passed rows columns k m (length room) e .exact) n, a .cleared ∙ sym (b .cleared))
+
+  -- two runs that pass their checks, whatever k and work room each has
+  pub any-k : (k k₂ : ℕ) (room room₂ room′ room₂′ : List ℕ) (r r₂ : Answer) → reductionChecks rows columns k m (length room) ≡ Done → reductionChecks rows columns k₂ m (length room₂) ≡ Done
+      → reduction rows columns k m room r m′ room′ → reduction rows columns k₂ m room₂ r₂ m₂ room₂′
+      → (m′ ≡ m₂) × (r .outcome ≡ r₂ .outcome) × (r .rank ≡ r₂ .rank) × (r .known ≡ r₂ .known) × (r .pivots ≡ r₂ .pivots)
+  any-k k k₂ room room₂ room′ room₂′ r r₂ e e₂ p q =
+      let a : Reduction rows columns k m room r m′ room′ = subst (λ (o : Outcome). byOutcome o rows columns k m room r m′ room′) e p in
+      let b : Reduction rows columns k₂ m room₂ r₂ m₂ room₂′ = subst (λ (o : Outcome). byOutcome o rows columns k₂ m room₂ r₂ m₂ room₂′) e₂ q in
+      let n = one-reduced-form (a .reduced) (b .reduced) in
+      let f = a .answered in
+      let g = b .answered in (
+        same-buffer (reduction-passed rows columns k m (length room) e .exact) n,
+        ap (λ (x : Answer). x .outcome) f ∙ sym (ap (λ (x : Answer). x .outcome) g),
+        ap (λ (x : Answer). x .rank) f ∙ ap rank n ∙ sym (ap (λ (x : Answer). x .rank) g),
+        ap (λ (x : Answer). x .known) f ∙ sym (ap (λ (x : Answer). x .known) g),
+        ap (λ (x : Answer). x .pivots) f ∙ ap pivotRecord n ∙ sym (ap (λ (x : Answer). x .pivots) g),
+      )

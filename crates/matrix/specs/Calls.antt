@@ -1,0 +1,55 @@
+-- What the row view and the reduction promise.
+use mathlib.Core.Path.{_≡_}
+use mathlib.Core.List.{List, [], _++_}
+use Prim.Native.Nat.{ℕ, _-_, _*_, _^_}
+use lib.ListN.{length, replicate}
+use Rattle.gf2.specs.Rows.{part}
+use Rattle.gf2.specs.Reduced.{ReducedForm, pivots, rank}
+use Rattle.gf2.specs.Additions.{additions}
+use Rattle.words.specs.Words.{wordsOf, rowsOf}
+use Rattle.refusals.specs.declared.Refusal.{Refusal}
+use Rattle.refusals.specs.declared.Outcome.{Outcome}
+use Rattle.refusals.specs.declared.Outcome.the-variants.{Done, Refused}
+use Rattle.refusals.specs.Checks.{viewChecks, reductionChecks}
+use Rattle.engine.specs.Core.{zeroed}
+use Rattle.matrix.specs.declared.Answer.{Answer}
+
+-- ---- the row view: row i's words, or the empty part
+
+abbrev pub shown : Outcome → ℕ → ℕ → List ℕ → List ℕ
+shown Done i w m = part (i * w) w m
+shown (Refused r) i w m = []
+
+abbrev pub rowView : ℕ → ℕ → ℕ → List ℕ → List ℕ
+rowView rows columns i m = shown (viewChecks rows columns (length m) i) i (wordsOf columns) m
+
+-- ---- the answer of reduction and of solving
+
+-- the record of the pivots of N: its pivots, and 65,535 behind them
+abbrev pub pivotRecord : List ℕ → List ℕ
+pivotRecord N = pivots N ++ replicate (512 - rank N) 65535
+
+abbrev pub answerOf : Outcome → ℕ → ℕ → ℕ → List ℕ → Answer
+answerOf o ranked known added list = record { outcome = o; rank = ranked; known = known; additions = added; pivots = list }
+
+-- beside a refusal: no rank, no totals, no pivots
+abbrev pub refusedAnswer : Refusal → Answer
+refusedAnswer r = answerOf (Refused r) 0 0 0 (replicate 512 65535)
+
+-- rank, table additions and pivots are those of the reduced matrix
+abbrev pub reducedAnswer : ℕ → ℕ → List ℕ → Answer
+reducedAnswer k columns N = answerOf Done (rank N) 0 (additions k columns N) (pivotRecord N)
+
+-- ---- the reduction: refused with nothing changed; or the matrix has become its reduced form, and the needed words of the work room are zero
+
+pub record Reduction (rows columns k : ℕ) (m room : List ℕ) (r : Answer) (m′ room′ : List ℕ) : Type 0 where
+  pub reduced : ReducedForm (rowsOf (wordsOf columns) rows m) (rowsOf (wordsOf columns) rows m′)
+  pub answered : r ≡ reducedAnswer k columns (rowsOf (wordsOf columns) rows m′)
+  pub cleared : room′ ≡ zeroed 0 (2 ^ k * wordsOf columns) room
+
+abbrev pub byOutcome : Outcome → ℕ → ℕ → ℕ → List ℕ → List ℕ → Answer → List ℕ → List ℕ → Type 0
+byOutcome Done rows columns k m room r m′ room′ = Reduction rows columns k m room r m′ room′
+byOutcome (Refused x) rows columns k m room r m′ room′ = (r ≡ refusedAnswer x) × (m′ ≡ m) × (room′ ≡ room)
+
+abbrev pub reduction : ℕ → ℕ → ℕ → List ℕ → List ℕ → Answer → List ℕ → List ℕ → Type 0
+reduction rows columns k m room r m′ room′ = byOutcome (reductionChecks rows columns k m (length room)) rows columns k m room r m′ room′

@@ -1,0 +1,75 @@
+// The row view, and the reduction by the table.
+ghost use mathlib.Core.Path.{_≡_};
+ghost use Rattle.matrix.specs.Calls.{rowView, answerOf, refusedAnswer, reduction};
+use refusals::Outcome;
+use refusals::Refusal;
+
+// what reduction and solving answer: the outcome, the rank, the number of known blocks, the table additions, and the pivot columns, of which the first
+// rank are used; the rest hold 65,535
+pub struct Answer {
+    pub outcome: Outcome,
+    pub rank: usize,
+    pub known: usize,
+    pub additions: usize,
+    pub pivots: [u16; 512],
+}
+
+// row i as that part of the caller's own buffer; the empty part where the call refuses
+pub fn row_view(m: &[u64], rows: usize, columns: usize, i: usize) -> &[u64]
+    ensures { λ x. ⌜ now x ≡ rowView rows columns i (now (m .entry)) ⌝ }
+{
+    let o = refusals::view(rows, columns, m.len(), i);
+    match o {
+        Outcome::Refused(r) => &m[0..0],
+        Outcome::Done => {
+            let w = refusals::words(columns);
+            let a = i * w;
+            let e = a + w;
+            &m[a..e]
+        }
+    }
+}
+
+// the one place where an answer is made
+pub fn told(
+    outcome: Outcome,
+    rank: usize,
+    known: usize,
+    additions: usize,
+    pivots: [u16; 512],
+) -> Answer
+    ensures { λ a. ⌜ a ≡ answerOf outcome rank known additions pivots ⌝ }
+{
+    Answer {
+        outcome: outcome,
+        rank: rank,
+        known: known,
+        additions: additions,
+        pivots: pivots,
+    }
+}
+
+// the answer beside a refusal
+pub fn refused(r: Refusal) -> Answer
+    ensures { λ a. ⌜ a ≡ refusedAnswer r ⌝ }
+{
+    let p = [65535u16; 512];
+    told(Outcome::Refused(r), 0, 0, 0, p)
+}
+
+// reduces the matrix in place, by windows of k columns, with tables in the work room
+pub fn reduce(m: &mut [u64], rows: usize, columns: usize, k: usize, room: &mut [u64]) -> Answer
+    ensures { λ r. ⌜ reduction rows columns k (now (m .entry)) (now (room .entry)) r (now (m .exit)) (now (room .exit)) ⌝ }
+{
+    let o = refusals::reduction(m, rows, columns, k, room.len());
+    match o {
+        Outcome::Refused(r) => refused(r),
+        Outcome::Done => {
+            let mut p = [65535u16; 512];
+            let e = engine::eliminate(m, room, rows, columns, k, &mut p);
+            let rank = e.rank;
+            let additions = e.additions;
+            told(Outcome::Done, rank, 0, additions, p)
+        }
+    }
+}
