@@ -4,7 +4,7 @@ use mathlib.Core.Path.{_≡_, refl, sym, ap, ap₂, _∙_}
 use mathlib.Core.List.{List, [], _∷_}
 use Prim.Native.Nat.{ℕ, zero, suc, _+_, _-_, _*_, _^_, _<_, _≤_}
 use native.Mathlib.Decide.{decLt, ℕ-discrete}
-use native.Mathlib.Nat.{lt-of-lt-of-le, add-zero, mul-le-mul-right, add-mul}
+use native.Mathlib.Nat.{lt-of-lt-of-le, add-zero, add-mul}
 use native.Mathlib.Omega.{arith}
 use lib.Bits.{xor-zero-r, xor-lt}
 use lib.Count.{trailingZeros}
@@ -27,9 +27,6 @@ use Rattle.method.proofs.Pending.{part-row}
 use Rattle.engine.specs.Stage.{rowAt, putRow, Table, Codes, cleared, tableIn}
 
 -- ---- sizes
-
-pub rows-small : (n w : ℕ) → n ≤ 1280 → w ≤ 16 → n * w ≤ 20480
-rows-small n w hn hw = omega (arith, mul-le-mul-right w hn)
 
 -- the last word of a row
 pub ends : (i n w len : ℕ) → i < n → n * w ≤ len → i * w + w ≤ len

@@ -1,13 +1,11 @@
 -- A window's columns of a row, as one number: where its digits come from, and what clearing the row does to it.
 use mathlib.Core.Path.{_≡_, sym, ap, _∙_}
-use Prim.Native.Nat.{ℕ, _+_, _*_, _/_, _%_, _^_, _<_}
-use native.Mathlib.Decide.{decLt}
-use native.Mathlib.Nat.{mod-lt, zero-div, zero-mod, add-zero, div-add-mod'}
-use native.Mathlib.Omega.{arith}
+use Prim.Native.Nat.{ℕ, _+_, _/_, _%_, _^_, _<_}
+use native.Mathlib.Nat.{mod-lt, zero-div, zero-mod}
 use lib.Bits.{xor-shr, xor-mod}
 use lib.Pow.{pow-pos}
 use Rattle.gf2.specs.Rows.{bit, _⊕_, pick}
-use Rattle.gf2.proofs.Bits.{zero-ext, bit-mod, bit-mod-above, bit-shr}
+use Rattle.gf2.proofs.Bits.{bit-mod, bit-shr}
 use Rattle.gf2.proofs.Space.{pick-map}
 use Rattle.words.specs.Words.{windowBits}
 
@@ -28,13 +26,3 @@ pub window-clear : (c k x v w : ℕ) → x < k → windowBits c k (v ⊕ pick (b
 window-clear c k x v w h =
     window-xor c k v (pick (bit (c + x) v) w)
     ∙ ap (λ (y : ℕ). windowBits c k v ⊕ y) (sym (pick-map (windowBits c k) (window-zero c k) (bit (c + x) v) w) ∙ ap (λ (b : ℕ). pick b (windowBits c k w)) (sym (bit-window c k x v h)))
-
--- a row with no one in columns below n, moved down and up again
-pub shift-back : (n v : ℕ) → ((c : ℕ) → c < n → bit c v ≡ 0) → v / 2 ^ n * 2 ^ n ≡ v
-shift-back n v h =
-    let e : v % 2 ^ n ≡ 0 = zero-ext (v % 2 ^ n) (λ c. go c (decLt c n)) in
-    sym (add-zero (v / 2 ^ n * 2 ^ n)) ∙ ap (λ (y : ℕ). v / 2 ^ n * 2 ^ n + y) (sym e) ∙ div-add-mod' v (2 ^ n)
-  where
-    go : (c : ℕ) → Dec (c < n) → bit c (v % 2 ^ n) ≡ 0
-    go c (yes l) = bit-mod c n v l ∙ h c l
-    go c (no l) = bit-mod-above n c v (omega arith)

@@ -129,26 +129,6 @@ within-turn m₀ m a b w j e h ha far =
     (read-own m₀ m a x j w e h ha l)
     (read-apart m₀ m a x j w e h ha l b far)
 
--- t[a + j] = t[b + j] ^ m[c + j]
-pub make-turn : (t₀ m t : List ℕ) (a b c w j : ℕ) → t ≡ paste t₀ a (xors (part b w t₀) (part c w m)) j → j < w → a + w ≤ length t₀ → b + w ≤ length t₀ → Apart a b w
-    → set t (a + j) (bitXor (getD t (b + j) 0) (getD m (c + j) 0)) ≡ paste t₀ a (xors (part b w t₀) (part c w m)) (j + 1)
-make-turn t₀ m t a b c w j e h ha hb far =
-    let lx : length (part b w t₀) ≡ w = length-part b w t₀ hb in
-    xors-more t₀ t a (part b w t₀) (part c w m) j _ _ e (omega arith) (omega arith)
-    (read-apart t₀ t a (xors (part b w t₀) (part c w m)) j w e h ha (length-xors (part b w t₀) (part c w m) ∙ lx) b far)
-    (sym (getD-part c w m j h))
-
--- m[a + j] = m[b + j] ^ m[c + j]
-pub sum-turn : (m₀ m : List ℕ) (a b c w j : ℕ) → m ≡ paste m₀ a (xors (part b w m₀) (part c w m₀)) j → j < w → a + w ≤ length m₀ → b + w ≤ length m₀ → Apart a b w → Apart a c w
-    → set m (a + j) (bitXor (getD m (b + j) 0) (getD m (c + j) 0)) ≡ paste m₀ a (xors (part b w m₀) (part c w m₀)) (j + 1)
-sum-turn m₀ m a b c w j e h ha hb farb farc =
-    let x : List ℕ = xors (part b w m₀) (part c w m₀) in
-    let lx : length (part b w m₀) ≡ w = length-part b w m₀ hb in
-    let l : length x ≡ w = length-xors (part b w m₀) (part c w m₀) ∙ lx in
-    xors-more m₀ m a (part b w m₀) (part c w m₀) j _ _ e (omega arith) (omega arith)
-    (read-apart m₀ m a x j w e h ha l b farb)
-    (read-apart m₀ m a x j w e h ha l c farc)
-
 -- a store outside the stored words
 module _ (m : List ℕ) (a : ℕ) (x : List ℕ) (j i v : ℕ) (hm : a + j ≤ length m) (hx : j ≤ length x) where
   set-before : i < a → set (paste m a x j) i v ≡ paste (set m i v) a x j

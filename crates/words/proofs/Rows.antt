@@ -1,21 +1,19 @@
 -- The n rows of w words at the start of a buffer, as a list of numbers: what a store of words does to that list, and what it leaves alone.
--- A buffer may go on past its rows: another such list may start at any word `off` of it, `rowsOf d N (drop off m)`.
 use mathlib.Core.Path.{_≡_, refl, sym, ap, ap₂, _∙_, subst}
-use mathlib.Core.List.{List, [], _∷_, _++_, append-assoc}
+use mathlib.Core.List.{List, [], _∷_, _++_}
 use mathlib.Core.Logic.{_↔_, _≢_, inl, inr}
 use Prim.Native.Nat.{ℕ, zero, suc, _+_, _-_, _*_, _/_, _%_, _^_, _<_, _≤_}
-use native.Mathlib.Nat.{zero-add, add-zero, zero-mul, suc-mul, suc-add, mul-le-mul-right, le-of-suc-le-suc, not-suc-le-zero, add-assoc}
+use native.Mathlib.Nat.{zero-add, zero-mul, suc-mul, suc-add, mul-le-mul-right, le-of-suc-le-suc, not-suc-le-zero}
 use native.Mathlib.Decide.{decLt, ℕ-discrete}
 use native.Mathlib.Omega.{arith}
-use lib.Bits.{xor-block, xor-zero-r}
-use lib.ListN.{length, getD, take, drop, set, length-set, length-take, length-drop, length-append, take-append-drop}
-use lib.Pow.{pow-pos}
-use lib.Seq.{paste, ext-getD, getD-set-same, getD-set-other, set-getD, set-set, length-paste, length-take-le, take-all, take-nil, take-add, take-take, take-append-le, drop-append-le, drop-drop}
+use lib.Bits.{xor-zero-r}
+use lib.ListN.{length, getD, take, drop, set, length-set, length-drop, length-append}
+use lib.Seq.{paste, ext-getD, getD-set-same, getD-set-other, set-getD, set-set, length-paste, length-take-le, take-all, take-nil, take-add, take-take, take-append-le, drop-drop}
 use Rattle.gf2.specs.Rows.{bit, _⊕_, row, part, swapped, pick}
 use Rattle.gf2.proofs.Bits.{bit-lt}
 use Rattle.words.specs.Words.{wordsOf, Fit, value, rowsOf, xors, Apart}
 use Rattle.words.proofs.Parts.{length-xors, length-part, getD-part, part-same, paste-before, paste-in, paste-after, drop-past}
-use Rattle.words.proofs.Value.{value-lt, value-append, value-drop, value-one, fit-take, fit-drop, part-fits, part-sum, last-word-padding, last-word-full}
+use Rattle.words.proofs.Value.{value-one, fit-take, fit-drop, part-fits, part-sum, last-word-padding, last-word-full}
 
 -- ---- where the rows stand
 
@@ -46,10 +44,6 @@ getD-rows w (suc n) m (suc i) h =
     let e : w + i * w ≡ suc i * w = omega (arith, suc-mul i w) in
     getD-rows w n (drop w m) i (le-of-suc-le-suc h)
     ∙ ap (λ (l : List ℕ). value (take w l)) (drop-drop (i * w) w m ∙ ap (λ (k : ℕ). drop k m) e)
-
--- the same for rows that start at word off
-pub getD-rows-drop : (d N off : ℕ) (m : List ℕ) (i : ℕ) → i < N → row (rowsOf d N (drop off m)) i ≡ value (part (off + i * d) d m)
-getD-rows-drop d N off m i h = getD-rows d N (drop off m) i h ∙ ap (λ (l : List ℕ). value (take d l)) (drop-drop (i * d) off m)
 
 drop-take : (a b : ℕ) (l : List ℕ) → drop a (take (a + b) l) ≡ take b (drop a l)
 drop-take zero b l = ap (λ (k : ℕ). take k l) (zero-add b)
@@ -158,27 +152,6 @@ rows-past w n m a x len h hm =
     ∙ take-append-le (n * w) (take a m) (take len x) (omega arith) ∙ take-take (n * w) a m h in
     sym (rows-take w n (paste m a x len)) ∙ ap (rowsOf w n) front ∙ rows-take w n m
 
--- ---- the rows that start at word off
-
-drop-into : (m : List ℕ) (off b : ℕ) (x : List ℕ) (j : ℕ) → off ≤ length m → drop off (paste m (off + b) x j) ≡ paste (drop off m) b x j
-drop-into m off b x j h =
-    let T : List ℕ = take (off + b) m in
-    let l : off ≤ length T = omega (arith, length-take (off + b) m) in
-    drop-append-le off (T ++ take j x) (drop (off + b + j) m) (omega (arith, length-append T (take j x)))
-    ∙ ap (λ (y : List ℕ). y ++ drop (off + b + j) m) (drop-append-le off T (take j x) l ∙ ap (λ (y : List ℕ). y ++ take j x) (drop-take off b m))
-    ∙ ap (λ (y : List ℕ). take b (drop off m) ++ take j x ++ y) (ap (λ (k : ℕ). drop k m) (add-assoc off b j) ∙ sym (drop-drop (b + j) off m))
-
--- words r stored in place of row i of them
-pub rows-drop : (d N off i : ℕ) (m r : List ℕ) → i < N → off + N * d ≤ length m → length r ≡ d
-    → rowsOf d N (drop off (paste m (off + i * d) r d)) ≡ set (rowsOf d N (drop off m)) i (value r)
-rows-drop d N off i m r hi hm hr =
-    ap (rowsOf d N) (drop-into m off (i * d) r d (omega arith)) ∙ rows-paste d N i (drop off m) r hi (omega (arith, length-drop off m)) hr
-
--- words stored before them
-pub rows-drop-before : (d N off : ℕ) (m : List ℕ) (a : ℕ) (x : List ℕ) (len : ℕ) → a + len ≤ off → a ≤ length m → len ≤ length x
-    → rowsOf d N (drop off (paste m a x len)) ≡ rowsOf d N (drop off m)
-rows-drop-before d N off m a x len h hm hx = ap (rowsOf d N) (drop-past m a x len off h hm hx)
-
 -- ---- sums of rows
 
 -- row `to` made of row `of` and of w words of any list
@@ -189,15 +162,6 @@ row-made w n to of t m b ht ho hl ft fm =
     rows-paste w n to t (xors (part (of * w) w t) (part b w m)) ht hl (length-xors (part (of * w) w t) (part b w m) ∙ length-part (of * w) w t end)
     ∙ ap (set (rowsOf w n t) to)
     (part-sum t m (of * w) b w end ft fm ∙ ap (λ (v : ℕ). v ⊕ value (part b w m)) (sym (getD-rows w n t of ho)))
-
--- the same for rows that start at word off
-pub rows-drop-made : (d N off to of : ℕ) (t m : List ℕ) (b : ℕ) → to < N → of < N → off + N * d ≤ length t → Fit t → Fit m
-    → rowsOf d N (drop off (paste t (off + to * d) (xors (part (off + of * d) d t) (part b d m)) d))
-    ≡ set (rowsOf d N (drop off t)) to (row (rowsOf d N (drop off t)) of ⊕ value (part b d m))
-rows-drop-made d N off to of t m b ht ho hl ft fm =
-    ap (rowsOf d N) (drop-into t off (to * d) (xors (part (off + of * d) d t) (part b d m)) d (omega arith))
-    ∙ ap (λ (l : List ℕ). rowsOf d N (paste (drop off t) (to * d) (xors (take d l) (part b d m)) d)) (sym (drop-drop (of * d) off t))
-    ∙ row-made d N to of (drop off t) m b ht ho (omega (arith, length-drop off t)) (fit-drop off t ft) fm
 
 -- row i made of row k and of row j of any list
 pub rows-made : (w n i k j n′ : ℕ) (m t : List ℕ) → i < n → k < n → j < n′ → n * w ≤ length m → Fit m → Fit t
@@ -247,57 +211,3 @@ module _ (w n i k : ℕ) (m : List ℕ) (hi : i < n) (hk : k < n) (hm : n * w �
 -- a row exchanged with itself
 pub swap-same : (i k : ℕ) (L : List ℕ) → i ≡ k → L ≡ swapped i k L
 swap-same i k L e = sym (ap (λ (x : ℕ). set (set L i (row L x)) x (row L i)) (sym e) ∙ set-set L i (row L i) (row L i) ∙ set-getD L i 0)
-
--- ---- the last d words of a row, from its word z on: they hold the row shifted down
-
-module _ (w z d : ℕ) (e : z + d ≡ w) (m : List ℕ) where
-  tail-part : (a : ℕ) → part (a + z) d m ≡ drop z (part a w m)
-  tail-part a = ap (take d) (sym (drop-drop z a m)) ∙ sym (drop-take z d (drop a m)) ∙ ap (λ (k : ℕ). drop z (take k (drop a m))) e
-
-  pub tail-row : (n i : ℕ) → i < n → Fit m → value (part (i * w + z) d m) ≡ row (rowsOf w n m) i / 2 ^ (64 * z)
-  tail-row n i h fm =
-      ap value (tail-part (i * w)) ∙ value-drop z (part (i * w) w m) (part-fits m (i * w) w fm) ∙ ap (λ (v : ℕ). v / 2 ^ (64 * z)) (sym (getD-rows w n m i h))
-
-  -- words stored there are a row stored
-  tail-paste : (a : ℕ) (x : List ℕ) → a + w ≤ length m → length x ≡ d → paste m (a + z) x d ≡ paste m a (take z (part a w m) ++ x) w
-  tail-paste a x h lx =
-      let A : List ℕ = take z (drop a m) in
-      let hA : take z (part a w m) ≡ A = take-take z w (drop a m) (omega arith) in
-      let lA : length A ≡ z = length-take-le z (drop a m) (omega (arith, length-drop a m)) in
-      let q : a + z + d ≡ a + w = omega arith in
-      ap₂ (λ (y u : List ℕ). y ++ u ++ drop (a + z + d) m) (take-add a z m) (take-all d x (omega arith))
-      ∙ ap₂ (λ (y : List ℕ) (k : ℕ). y ++ drop k m) (append-assoc (take a m) A x) q
-      ∙ ap (λ (y : List ℕ). take a m ++ y ++ drop (a + w) m) (sym (take-all w (A ++ x) (omega (arith, length-append A x))))
-      ∙ ap (λ (y : List ℕ). take a m ++ take w (y ++ x) ++ drop (a + w) m) (sym hA)
-
-  -- d words of any list added there
-  pub tail-added : (n i : ℕ) (t : List ℕ) (b : ℕ) → i < n → n * w ≤ length m → Fit m → Fit t
-      → rowsOf w n (paste m (i * w + z) (xors (part (i * w + z) d m) (part b d t)) d) ≡ set (rowsOf w n m) i (row (rowsOf w n m) i ⊕ value (part b d t) * 2 ^ (64 * z))
-  tail-added n i t b hi hm fm ft =
-      let a : ℕ = i * w in
-      let end : a + w ≤ length m = omega (arith, row-ends i n w hi) in
-      let R : List ℕ = part a w m in
-      let lR : length R ≡ w = length-part a w m end in
-      let A : List ℕ = take z R in
-      let lA : length A ≡ z = length-take-le z R (omega arith) in
-      let B : List ℕ = part (a + z) d m in
-      let lB : length B ≡ d = length-part (a + z) d m (omega arith) in
-      let T : List ℕ = part b d t in
-      let X : List ℕ = xors B T in
-      let lX : length X ≡ d = length-xors B T ∙ lB in
-      let s : ℕ = 64 * z in
-      let vA : value A < 2 ^ s = subst (λ (k : ℕ). value A < 2 ^ (64 * k)) lA (value-lt A (fit-take z R (part-fits m a w fm))) in
-      let hR : value R ≡ value B * 2 ^ s + value A =
-      ap value (sym (take-append-drop z R)) ∙ value-append A (drop z R) ∙ ap₂ (λ (v k : ℕ). v * 2 ^ (64 * k) + value A) (ap value (sym (tail-part a))) lA in
-      let hX : value (A ++ X) ≡ value R ⊕ value T * 2 ^ s =
-      value-append A X ∙ ap₂ (λ (v k : ℕ). v * 2 ^ (64 * k) + value A) (part-sum m t (a + z) b d (omega arith) fm ft) lA
-      ∙ ap (λ (y : ℕ). (value B ⊕ value T) * 2 ^ s + y) (sym (xor-zero-r (value A)))
-      ∙ sym (xor-block s (value B) (value T) (value A) 0 vA (pow-pos s))
-      ∙ ap₂ (λ (p q : ℕ). p ⊕ q) (sym hR) (add-zero (value T * 2 ^ s)) in
-      ap (rowsOf w n) (tail-paste a X end lX)
-      ∙ rows-paste w n i m (A ++ X) hi hm (omega (arith, length-append A X))
-      ∙ ap (set (rowsOf w n m) i) (hX ∙ ap (λ (v : ℕ). v ⊕ value T * 2 ^ s) (sym (getD-rows w n m i hi)))
-
-  -- words stored there leave what lies past the rows
-  pub rest-tail : (n i : ℕ) (x : List ℕ) → i < n → n * w ≤ length m → length x ≡ d → drop (n * w) (paste m (i * w + z) x d) ≡ drop (n * w) m
-  rest-tail n i x hi hm hx = drop-past m (i * w + z) x d (n * w) (omega (arith, row-ends i n w hi)) (omega (arith, row-ends i n w hi)) (omega arith)

@@ -1,0 +1,141 @@
+// Refusals: all combinations of numbers at and past each bound, lengths that are right or one off, and padding that is clean or not.
+use super::buffer;
+use super::call;
+use super::fill;
+use super::tally::Tally;
+
+pub fn rows_of(n: usize) -> usize {
+    match n {
+        0 => 0,
+        1 => 1,
+        2 => 3,
+        3 => 512,
+        4 => 513,
+        5 => 9223372036854775807,
+        6 => 9223372036854775808,
+        _ => 18446744073709551615,
+    }
+}
+
+pub fn columns_of(n: usize) -> usize {
+    match n {
+        0 => 0,
+        1 => 1,
+        2 => 63,
+        3 => 64,
+        4 => 65,
+        5 => 1023,
+        6 => 1024,
+        7 => 1025,
+        8 => 9223372036854775808,
+        _ => 18446744073709551615,
+    }
+}
+
+fn k_of(n: usize) -> usize {
+    match n {
+        0 => 0,
+        1 => 1,
+        2 => 8,
+        3 => 9,
+        4 => 63,
+        5 => 64,
+        6 => 9223372036854775808,
+        _ => 18446744073709551615,
+    }
+}
+
+// the length asked for, one word short, one word long, or none
+pub fn length_of(n: usize, asked: usize) -> usize {
+    match n {
+        0 => asked,
+        1 => buffer::less(asked),
+        2 => std::num::wrapping_add_usize(asked, 1),
+        _ => 0,
+    }
+}
+
+// the words of a matrix, with rows and columns cut down to what the buffers hold
+pub fn asked(rows: usize, columns: usize) -> usize {
+    buffer::place(
+        buffer::least(rows, 513),
+        buffer::least(buffer::width(columns), 17),
+        0,
+    )
+}
+
+fn asked_room(k: usize, columns: usize) -> usize {
+    let w = buffer::least(buffer::width(columns), 16);
+    buffer::place(buffer::pow2(buffer::least(k, 8)), w, 0)
+}
+
+// sets the first or the last padding bit of the first, the middle or the last row; whether it did
+fn soil(m: &mut [u64], rows: usize, columns: usize, n: usize) -> bool {
+    if n == 0 || rows == 0 || columns % 64 == 0 {
+        return false;
+    }
+    let i = match n {
+        1 => 0,
+        2 => rows / 2,
+        _ => buffer::less(rows),
+    };
+    let w = buffer::width(columns);
+    let p = buffer::place(i, w, buffer::less(w));
+    let v = buffer::get(m, p);
+    let bit = if n == 4 { 1 << columns % 64 } else { 1 << 63 };
+    buffer::put(m, p, v | bit);
+    true
+}
+
+// the first fault in the order of the requirements, or 0
+fn first(rows: usize, columns: usize, k: usize, len: usize, room: usize, dirty: bool) -> u8 {
+    if 512 < rows {
+        return 1;
+    }
+    if columns == 0 || 1024 < columns {
+        return 2;
+    }
+    if k == 0 || 8 < k {
+        return 3;
+    }
+    let w = buffer::width(columns);
+    if len != buffer::place(rows, w, 0) {
+        return 4;
+    }
+    if room < buffer::place(buffer::pow2(k), w, 0) {
+        return 6;
+    }
+    if dirty { 5 } else { 0 }
+}
+
+fn case(m: &mut [u64], copy: &mut [u64], room: &mut [u64], n: usize, x: u64) -> bool {
+    let rows = rows_of(n % 8);
+    let columns = columns_of(n / 8 % 10);
+    let k = k_of(n / 80 % 8);
+    let len = length_of(n / 640 % 4, asked(rows, columns));
+    let lent = length_of(n / 2560 % 3, asked_room(k, columns));
+    if m.len() < len {
+        return false;
+    }
+    if room.len() < lent {
+        return false;
+    }
+    let part = &mut m[..len];
+    let work = &mut room[..lent];
+    fill::fill(part, columns, 0, x);
+    let dirty = soil(part, rows, columns, n / 7680 % 5);
+    let number = first(rows, columns, k, len, lent, dirty);
+    call::right(part, copy, work, rows, columns, k, number)
+}
+
+pub fn all(m: &mut [u64], copy: &mut [u64], room: &mut [u64]) -> Tally {
+    let mut t = Tally::none();
+    let mut x = 362436069362436069;
+    let mut n = 0;
+    while n < 38400 {
+        x = fill::next(x);
+        t = t.count(case(m, copy, room, n, x));
+        n += 1;
+    }
+    t
+}
