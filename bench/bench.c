@@ -15,7 +15,7 @@
 
 enum { ROWS = 512, COLUMNS = 1024, WORDS = COLUMNS / 64, UNUSED = 65535 };
 
-// calls.rt; a slice is a pointer and a length
+// a slice is a pointer and a length; see `run`
 void bench_reduce(uint64_t *m, size_t m_len, size_t rows, size_t columns, size_t k, uint64_t *room, size_t room_len,
                   uint16_t *pivots, uint64_t *said);
 
