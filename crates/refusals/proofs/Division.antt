@@ -1,4 +1,4 @@
--- Products compared by division, so that nothing is multiplied that could wrap.
+-- Products compared by division, and sums by subtraction, so that nothing is made that could wrap.
 use mathlib.Core.Path.{_≡_, sym, ap, _∙_}
 use mathlib.Core.Logic.{_≢_}
 use mathlib.Core.Bool.{true, false}
@@ -67,3 +67,15 @@ short-rest room more k w h l f =
     go : Dec (room / w - more < 2 ^ k) → ltb (room / w - more) (2 ^ k) ≡ ltb (room / w) (more + 2 ^ k)
     go (yes m) = lt-ltb (room / w - more) (2 ^ k) m ∙ sym (lt-ltb (room / w) (more + 2 ^ k) (omega arith))
     go (no m) = le-ltb (room / w - more) (2 ^ k) (omega arith) ∙ sym (le-ltb (room / w) (more + 2 ^ k) (omega arith))
+
+-- ---- 1,024 against a + b
+
+pub over-far : (a b : ℕ) → 1024 < a → true ≡ ltb 1024 (a + b)
+over-far a b h = sym (lt-ltb 1024 (a + b) (omega arith))
+
+pub over-rest : (a b : ℕ) → a ≤ 1024 → ltb (1024 - a) b ≡ ltb 1024 (a + b)
+over-rest a b h = go (decLt (1024 - a) b)
+  where
+    go : Dec (1024 - a < b) → ltb (1024 - a) b ≡ ltb 1024 (a + b)
+    go (yes l) = lt-ltb (1024 - a) b l ∙ sym (lt-ltb 1024 (a + b) (omega arith))
+    go (no l) = le-ltb (1024 - a) b (omega arith) ∙ sym (le-ltb 1024 (a + b) (omega arith))

@@ -2,19 +2,20 @@
 use mathlib.Core.Path.{_≡_, refl, sym, ap, ap₂, _∙_}
 use mathlib.Core.Bool.{Bool, true, false, not, _&&_}
 use mathlib.Core.List.{List}
-use Prim.Native.Nat.{ℕ, _+_, _*_, _^_, _≤_, _<_}
-use native.Mathlib.Nat.{zero-add}
+use Prim.Native.Nat.{ℕ, _+_, _-_, _*_, _^_, _≤_, _<_}
+use native.Mathlib.Nat.{zero-add, one-mul}
 use native.Mathlib.Omega.{arith}
 use borrow.Author.Tests.{ltb-false, eqb-false, eqb-true, leb-false, le-ltb, lt-leb, le-leb, eq-eqb, ne-eqb}
 use lib.Dec.{eqb, ltb, leb, lit<}
 use lib.ListN.{length}
+use Rattle.gf2.specs.Rows.{row}
 use Rattle.words.specs.Words.{wordsOf, rowsOf}
 use Rattle.refusals.specs.declared.Refusal.{Refusal}
 use Rattle.refusals.specs.declared.Refusal.the-variants.{TooManyRows, BadColumns, BadK, WrongLength, DirtyPadding, ShortRoom, BadBlocks, NotSquare, NoInverse, Contradictory, TooWide, NotBelow, WrongBuffer, BundleSize, EntryCount, ContentsCut, BadKind, BadShape, WrongOffset, BodyPast, BytesLeft, ShortOutput, BundleOver}
 use Rattle.refusals.specs.declared.Outcome.{Outcome}
 use Rattle.refusals.specs.declared.Outcome.the-variants.{Done, Refused}
 use Rattle.refusals.specs.Outcome.{numberOf, outcomeNumber, refuseIf, _andThen_}
-use Rattle.refusals.specs.Checks.{tooManyRows, badColumns, badK, wrongLength, shortRoom, notBelow, narrow, holdsRows, dirtyPadding, viewChecks, reductionChecks, ReductionPasses, ViewPasses}
+use Rattle.refusals.specs.Checks.{tooManyRows, badColumns, badK, wrongLength, shortRoom, notBelow, narrow, holdsRows, dirtyPadding, badBlocks, notSquare, tooWide, wrongBuffer, wrongMarks, viewChecks, reductionChecks, inverseShape, inverseChecks, solvingChecks, contradictionShape, contradictionChecks, ReductionPasses, ViewPasses, InversePasses, SolvingPasses, ContradictionPasses}
 use Rattle.refusals.proofs.Padding.{narrow-all, narrow-row}
 
 -- ---- numbers
@@ -68,6 +69,14 @@ then-done (Refused r) p e = absurd (refused-not e)
 pub done-then : {o p : Outcome} → o ≡ Done → p ≡ Done → o andThen p ≡ Done
 done-then e f = ap₂ _andThen_ e f
 
+-- two checks more, behind those whose outcome is known
+module _ (o p q : Outcome) where
+  pub stays-refused : {r : Refusal} → o ≡ Refused r → Refused r ≡ o andThen p andThen q
+  stays-refused e = sym (ap (λ (x : Outcome). x andThen p andThen q) e)
+
+  pub goes-on : o ≡ Done → p andThen q ≡ o andThen p andThen q
+  goes-on e = sym (ap (λ (x : Outcome). x andThen p andThen q) e)
+
 pub not-false : (b : Bool) → not b ≡ false → b ≡ true
 not-false true e = refl
 not-false false e = sym e
@@ -108,6 +117,44 @@ length-done rows columns len e = eqb-true len (rows * wordsOf columns) (not-fals
 done-length : (rows columns len : ℕ) → len ≡ rows * wordsOf columns → wrongLength rows columns len ≡ Done
 done-length rows columns len h = done-if _ (ap not (eq-eqb len (rows * wordsOf columns) h))
 
+blocks-done : (n columns : ℕ) → badBlocks n columns ≡ Done → (0 < n) × (n < columns)
+blocks-done n columns e =
+    let t = then-done (refuseIf (eqb n 0) _) (refuseIf (leb columns n) _) e in
+    (pos (eqb-false n 0 (if-done (eqb n 0) _ (t .0))), leb-false columns n (if-done (leb columns n) _ (t .1)))
+  where
+    pos : (n ≡ 0 → ⊥) → 0 < n
+    pos h = omega arith
+
+done-blocks : (n columns : ℕ) → 0 < n → n < columns → badBlocks n columns ≡ Done
+done-blocks n columns h l = done-then (done-if _ (ne-eqb n 0 (λ e. omega arith))) (done-if _ (lt-leb columns n l))
+
+-- two numbers that must be equal
+same-done : (r : Refusal) (a b : ℕ) → refuseIf (not (eqb a b)) r ≡ Done → a ≡ b
+same-done r a b e = eqb-true a b (not-false (eqb a b) (if-done (not (eqb a b)) r e))
+
+done-same : (r : Refusal) (a b : ℕ) → a ≡ b → refuseIf (not (eqb a b)) r ≡ Done
+done-same r a b h = done-if r (ap not (eq-eqb a b h))
+
+room-done : (more k columns room : ℕ) → shortRoom more k columns room ≡ Done → (more + 2 ^ k) * wordsOf columns ≤ room
+room-done more k columns room e = ltb-false room ((more + 2 ^ k) * wordsOf columns) (if-done (ltb room ((more + 2 ^ k) * wordsOf columns)) _ e)
+
+done-room : (more k columns room : ℕ) → (more + 2 ^ k) * wordsOf columns ≤ room → shortRoom more k columns room ≡ Done
+done-room more k columns room h = done-if _ (le-ltb room ((more + 2 ^ k) * wordsOf columns) h)
+
+table-only : (k w : ℕ) → (0 + 2 ^ k) * w ≡ 2 ^ k * w
+table-only k w = ap (λ (x : ℕ). x * w) (zero-add (2 ^ k))
+
+module _ (rows columns : ℕ) (m : List ℕ) (exact : length m ≡ rows * wordsOf columns) where
+  padding-done : dirtyPadding rows columns m ≡ Done → (i : ℕ) → row (rowsOf (wordsOf columns) rows m) i < 2 ^ columns
+  padding-done e =
+      let holds : holdsRows rows columns m ≡ true = not-false (holdsRows rows columns m) (if-done (not (holdsRows rows columns m)) _ e) in
+      narrow-row columns (rowsOf (wordsOf columns) rows m)
+      (sym (ap (λ (b : Bool). b && narrow columns (rowsOf (wordsOf columns) rows m)) (le-leb (rows * wordsOf columns) (length m) (omega arith))) ∙ holds)
+
+  done-padding : ((i : ℕ) → row (rowsOf (wordsOf columns) rows m) i < 2 ^ columns) → dirtyPadding rows columns m ≡ Done
+  done-padding h =
+      done-if _ (ap not (ap₂ _&&_ (le-leb (rows * wordsOf columns) (length m) (omega arith)) (sym (narrow-all columns (rowsOf (wordsOf columns) rows m) (λ i l. h i)))))
+
 -- ---- the calls
 
 module _ (rows columns k : ℕ) (m : List ℕ) (room : ℕ) where
@@ -119,7 +166,6 @@ module _ (rows columns k : ℕ) (m : List ℕ) (room : ℕ) where
       let t₂ = then-done (tooManyRows rows andThen badColumns columns) (badK k) (t₃ .0) in
       let t₁ = then-done (tooManyRows rows) (badColumns columns) (t₂ .0) in
       let exact = length-done rows columns (length m) (t₃ .1) in
-      let holds : holdsRows rows columns m ≡ true = not-false (holdsRows rows columns m) (if-done (not (holdsRows rows columns m)) _ (t₅ .1)) in
       record {
         few = few-done rows (t₁ .0);
         some = columns-done columns (t₁ .1) .0;
@@ -127,18 +173,15 @@ module _ (rows columns k : ℕ) (m : List ℕ) (room : ℕ) where
         least = k-done k (t₂ .1) .0;
         most = k-done k (t₂ .1) .1;
         exact = exact;
-        roomy = roomy (ltb-false room ((0 + 2 ^ k) * wordsOf columns) (if-done (ltb room ((0 + 2 ^ k) * wordsOf columns)) _ (t₄ .1)));
-        clean = narrow-row columns (rowsOf (wordsOf columns) rows m) (sym (ap (λ (b : Bool). b && narrow columns (rowsOf (wordsOf columns) rows m)) (le-leb (rows * wordsOf columns) (length m) (omega arith))) ∙ holds);
+        roomy = omega (arith, table-only k (wordsOf columns), room-done 0 k columns room (t₄ .1));
+        clean = padding-done rows columns m exact (t₅ .1);
       }
-    where
-      roomy : (0 + 2 ^ k) * wordsOf columns ≤ room → 2 ^ k * wordsOf columns ≤ room
-      roomy h = rw (zero-add (2 ^ k)) at h
 
   pub passes-reduction : ReductionPasses rows columns k m room → reductionChecks rows columns k m room ≡ Done
   passes-reduction p =
       done-then (done-then (done-then (done-then (done-then (done-few rows (p .few)) (done-columns columns (p .some) (p .wide))) (done-k k (p .least) (p .most))) (done-length rows columns (length m) (p .exact)))
-      (done-if _ (le-ltb room ((0 + 2 ^ k) * wordsOf columns) (omega (arith, ap (λ (x : ℕ). x * wordsOf columns) (zero-add (2 ^ k)), p .roomy)))))
-      (done-if _ (ap not (ap₂ _&&_ (le-leb (rows * wordsOf columns) (length m) (omega (arith, p .exact))) (sym (narrow-all columns (rowsOf (wordsOf columns) rows m) (λ i l. p .clean i))))))
+      (done-room 0 k columns room (omega (arith, table-only k (wordsOf columns), p .roomy))))
+      (done-padding rows columns m (p .exact) (p .clean))
 
 module _ (rows columns len i : ℕ) where
   pub view-passed : viewChecks rows columns len i ≡ Done → ViewPasses rows columns len i
@@ -157,3 +200,150 @@ module _ (rows columns len i : ℕ) where
   pub passes-view : ViewPasses rows columns len i → viewChecks rows columns len i ≡ Done
   passes-view p =
       done-then (done-then (done-then (done-few rows (p .few)) (done-columns columns (p .some) (p .wide))) (done-length rows columns len (p .exact))) (done-if _ (lt-leb rows i (p .below)))
+
+-- ---- after the checks of numbers and lengths the room's width can be added up
+
+small : (rows columns : ℕ) → tooManyRows rows andThen badColumns columns ≡ Done → rows + columns ≤ 1536
+small rows columns e =
+    let t = then-done (tooManyRows rows) (badColumns columns) e in
+    omega (arith, few-done rows (t .0), columns-done columns (t .1) .1)
+
+pub inverse-small : (rows columns k len result : ℕ) → inverseShape rows columns k len result ≡ Done → rows + columns ≤ 1536
+inverse-small rows columns k len result e =
+    let a₁ = tooManyRows rows andThen badColumns columns in
+    let a₂ = a₁ andThen notSquare rows columns in
+    let a₃ = a₂ andThen badK k in
+    let a₄ = a₃ andThen wrongLength rows columns len in
+    small rows columns
+    (then-done a₁ (notSquare rows columns) (then-done a₂ (badK k) (then-done a₃ (wrongLength rows columns len) (then-done a₄ (wrongBuffer rows columns result) e .0) .0) .0) .0)
+
+pub contradiction-small : (rows columns n k len named : ℕ) → contradictionShape rows columns n k len named ≡ Done → columns + rows ≤ 1536
+contradiction-small rows columns n k len named e =
+    let a₁ = tooManyRows rows andThen badColumns columns in
+    let a₂ = a₁ andThen badBlocks n columns in
+    let a₃ = a₂ andThen tooWide columns rows in
+    let a₄ = a₃ andThen badK k in
+    let a₅ = a₄ andThen wrongLength rows columns len in
+    let s =
+    small rows columns
+    (then-done a₁ (badBlocks n columns)
+    (then-done a₂ (tooWide columns rows) (then-done a₃ (badK k) (then-done a₄ (wrongLength rows columns len) (then-done a₅ (wrongBuffer 1 rows named) e .0) .0) .0) .0) .0) in
+    omega (arith, s)
+
+-- ---- the calls that solve, invert, and show a contradiction
+
+module _ (rows columns k : ℕ) (m : List ℕ) (result room : ℕ) where
+  pub inverse-passed : inverseChecks rows columns k m result room ≡ Done → InversePasses rows columns k m result room
+  inverse-passed e =
+      let a₁ = tooManyRows rows andThen badColumns columns in
+      let a₂ = a₁ andThen notSquare rows columns in
+      let a₃ = a₂ andThen badK k in
+      let a₄ = a₃ andThen wrongLength rows columns (length m) in
+      let a₅ = a₄ andThen wrongBuffer rows columns result in
+      let a₆ = a₅ andThen shortRoom rows k (rows + columns) room in
+      let t₇ = then-done a₆ (dirtyPadding rows columns m) e in
+      let t₆ = then-done a₅ (shortRoom rows k (rows + columns) room) (t₇ .0) in
+      let t₅ = then-done a₄ (wrongBuffer rows columns result) (t₆ .0) in
+      let t₄ = then-done a₃ (wrongLength rows columns (length m)) (t₅ .0) in
+      let t₃ = then-done a₂ (badK k) (t₄ .0) in
+      let t₂ = then-done a₁ (notSquare rows columns) (t₃ .0) in
+      let t₁ = then-done (tooManyRows rows) (badColumns columns) (t₂ .0) in
+      let exact = length-done rows columns (length m) (t₄ .1) in
+      record {
+        few = few-done rows (t₁ .0);
+        some = columns-done columns (t₁ .1) .0;
+        square = same-done NotSquare rows columns (t₂ .1);
+        least = k-done k (t₃ .1) .0;
+        most = k-done k (t₃ .1) .1;
+        exact = exact;
+        fitting = same-done WrongBuffer result (rows * wordsOf columns) (t₅ .1);
+        roomy = room-done rows k (rows + columns) room (t₆ .1);
+        clean = padding-done rows columns m exact (t₇ .1);
+      }
+
+  pub passes-inverse : InversePasses rows columns k m result room → inverseChecks rows columns k m result room ≡ Done
+  passes-inverse p =
+      done-then (done-then (done-then (done-then (done-then (done-then (done-then (done-few rows (p .few)) (done-columns columns (p .some) (omega (arith, p .few, p .square))))
+      (done-same NotSquare rows columns (p .square))) (done-k k (p .least) (p .most))) (done-length rows columns (length m) (p .exact)))
+      (done-same WrongBuffer result (rows * wordsOf columns) (p .fitting))) (done-room rows k (rows + columns) room (p .roomy)))
+      (done-padding rows columns m (p .exact) (p .clean))
+
+module _ (rows columns n k : ℕ) (m : List ℕ) (image marks room : ℕ) where
+  pub solving-passed : solvingChecks rows columns n k m image marks room ≡ Done → SolvingPasses rows columns n k m image marks room
+  solving-passed e =
+      let a₁ = tooManyRows rows andThen badColumns columns in
+      let a₂ = a₁ andThen badBlocks n columns in
+      let a₃ = a₂ andThen badK k in
+      let a₄ = a₃ andThen wrongLength rows columns (length m) in
+      let a₅ = a₄ andThen wrongBuffer n (columns - n) image in
+      let a₆ = a₅ andThen wrongMarks n marks in
+      let a₇ = a₆ andThen shortRoom 0 k columns room in
+      let t₈ = then-done a₇ (dirtyPadding rows columns m) e in
+      let t₇ = then-done a₆ (shortRoom 0 k columns room) (t₈ .0) in
+      let t₆ = then-done a₅ (wrongMarks n marks) (t₇ .0) in
+      let t₅ = then-done a₄ (wrongBuffer n (columns - n) image) (t₆ .0) in
+      let t₄ = then-done a₃ (wrongLength rows columns (length m)) (t₅ .0) in
+      let t₃ = then-done a₂ (badK k) (t₄ .0) in
+      let t₂ = then-done a₁ (badBlocks n columns) (t₃ .0) in
+      let t₁ = then-done (tooManyRows rows) (badColumns columns) (t₂ .0) in
+      let exact = length-done rows columns (length m) (t₄ .1) in
+      record {
+        few = few-done rows (t₁ .0);
+        wide = columns-done columns (t₁ .1) .1;
+        block = blocks-done n columns (t₂ .1) .0;
+        payload = blocks-done n columns (t₂ .1) .1;
+        least = k-done k (t₃ .1) .0;
+        most = k-done k (t₃ .1) .1;
+        exact = exact;
+        fitting = same-done WrongBuffer image (n * wordsOf (columns - n)) (t₅ .1);
+        marked = same-done WrongBuffer marks n (t₆ .1);
+        roomy = omega (arith, table-only k (wordsOf columns), room-done 0 k columns room (t₇ .1));
+        clean = padding-done rows columns m exact (t₈ .1);
+      }
+
+  pub passes-solving : SolvingPasses rows columns n k m image marks room → solvingChecks rows columns n k m image marks room ≡ Done
+  passes-solving p =
+      done-then (done-then (done-then (done-then (done-then (done-then (done-then (done-then (done-few rows (p .few)) (done-columns columns (omega (arith, p .payload)) (p .wide)))
+      (done-blocks n columns (p .block) (p .payload))) (done-k k (p .least) (p .most))) (done-length rows columns (length m) (p .exact)))
+      (done-same WrongBuffer image (n * wordsOf (columns - n)) (p .fitting))) (done-same WrongBuffer marks n (p .marked)))
+      (done-room 0 k columns room (omega (arith, table-only k (wordsOf columns), p .roomy))))
+      (done-padding rows columns m (p .exact) (p .clean))
+
+module _ (rows columns n k : ℕ) (m : List ℕ) (named room : ℕ) where
+  pub contradiction-passed : contradictionChecks rows columns n k m named room ≡ Done → ContradictionPasses rows columns n k m named room
+  contradiction-passed e =
+      let a₁ = tooManyRows rows andThen badColumns columns in
+      let a₂ = a₁ andThen badBlocks n columns in
+      let a₃ = a₂ andThen tooWide columns rows in
+      let a₄ = a₃ andThen badK k in
+      let a₅ = a₄ andThen wrongLength rows columns (length m) in
+      let a₆ = a₅ andThen wrongBuffer 1 rows named in
+      let a₇ = a₆ andThen shortRoom rows k (columns + rows) room in
+      let t₈ = then-done a₇ (dirtyPadding rows columns m) e in
+      let t₇ = then-done a₆ (shortRoom rows k (columns + rows) room) (t₈ .0) in
+      let t₆ = then-done a₅ (wrongBuffer 1 rows named) (t₇ .0) in
+      let t₅ = then-done a₄ (wrongLength rows columns (length m)) (t₆ .0) in
+      let t₄ = then-done a₃ (badK k) (t₅ .0) in
+      let t₃ = then-done a₂ (tooWide columns rows) (t₄ .0) in
+      let t₂ = then-done a₁ (badBlocks n columns) (t₃ .0) in
+      let t₁ = then-done (tooManyRows rows) (badColumns columns) (t₂ .0) in
+      let exact = length-done rows columns (length m) (t₅ .1) in
+      record {
+        few = few-done rows (t₁ .0);
+        block = blocks-done n columns (t₂ .1) .0;
+        payload = blocks-done n columns (t₂ .1) .1;
+        wide = ltb-false 1024 (columns + rows) (if-done (ltb 1024 (columns + rows)) _ (t₃ .1));
+        least = k-done k (t₄ .1) .0;
+        most = k-done k (t₄ .1) .1;
+        exact = exact;
+        fitting = same-done WrongBuffer named (1 * wordsOf rows) (t₆ .1) ∙ one-mul (wordsOf rows);
+        roomy = room-done rows k (columns + rows) room (t₇ .1);
+        clean = padding-done rows columns m exact (t₈ .1);
+      }
+
+  pub passes-contradiction : ContradictionPasses rows columns n k m named room → contradictionChecks rows columns n k m named room ≡ Done
+  passes-contradiction p =
+      done-then (done-then (done-then (done-then (done-then (done-then (done-then (done-then (done-few rows (p .few)) (done-columns columns (omega (arith, p .payload)) (omega (arith, p .wide))))
+      (done-blocks n columns (p .block) (p .payload))) (done-if TooWide (le-ltb 1024 (columns + rows) (p .wide)))) (done-k k (p .least) (p .most))) (done-length rows columns (length m) (p .exact)))
+      (done-same WrongBuffer named (1 * wordsOf rows) (p .fitting ∙ sym (one-mul (wordsOf rows))))) (done-room rows k (columns + rows) room (p .roomy)))
+      (done-padding rows columns m (p .exact) (p .clean))

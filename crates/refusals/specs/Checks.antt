@@ -2,13 +2,13 @@
 use mathlib.Core.Path.{_≡_}
 use mathlib.Core.Bool.{Bool, true, false, not, _&&_}
 use mathlib.Core.List.{List, [], _∷_}
-use Prim.Native.Nat.{ℕ, _+_, _*_, _^_, _≤_, _<_}
+use Prim.Native.Nat.{ℕ, _+_, _-_, _*_, _^_, _≤_, _<_}
 use lib.Dec.{eqb, ltb, leb}
 use lib.ListN.{length}
 use Rattle.gf2.specs.Rows.{row}
 use Rattle.words.specs.Words.{wordsOf, rowsOf}
 use Rattle.refusals.specs.declared.Outcome.{Outcome}
-use Rattle.refusals.specs.declared.Refusal.the-variants.{TooManyRows, BadColumns, BadK, WrongLength, DirtyPadding, ShortRoom, NotBelow}
+use Rattle.refusals.specs.declared.Refusal.the-variants.{TooManyRows, BadColumns, BadK, WrongLength, DirtyPadding, ShortRoom, BadBlocks, NotSquare, TooWide, NotBelow, WrongBuffer}
 use Rattle.refusals.specs.Outcome.{refuseIf, _andThen_}
 
 abbrev pub tooManyRows : ℕ → Outcome
@@ -27,6 +27,25 @@ wrongLength rows columns len = refuseIf (not (eqb len (rows * wordsOf columns)))
 -- fewer than 2 ^ k rows, and `more` rows besides, as wide as that many columns
 abbrev pub shortRoom : ℕ → ℕ → ℕ → ℕ → Outcome
 shortRoom more k columns room = refuseIf (ltb room ((more + 2 ^ k) * wordsOf columns)) ShortRoom
+
+-- n blocks leave no payload, or there is no block
+abbrev pub badBlocks : ℕ → ℕ → Outcome
+badBlocks n columns = refuseIf (eqb n 0) BadBlocks andThen refuseIf (leb columns n) BadBlocks
+
+abbrev pub notSquare : ℕ → ℕ → Outcome
+notSquare rows columns = refuseIf (not (eqb rows columns)) NotSquare
+
+-- packets with an identity adjoined: a column more for each
+abbrev pub tooWide : ℕ → ℕ → Outcome
+tooWide columns packets = refuseIf (ltb 1024 (columns + packets)) TooWide
+
+-- a buffer to be written that is not exactly rows x words
+abbrev pub wrongBuffer : ℕ → ℕ → ℕ → Outcome
+wrongBuffer rows columns len = refuseIf (not (eqb len (rows * wordsOf columns))) WrongBuffer
+
+-- not a mark for each of n blocks
+abbrev pub wrongMarks : ℕ → ℕ → Outcome
+wrongMarks n len = refuseIf (not (eqb len n)) WrongBuffer
 
 abbrev pub notBelow : ℕ → ℕ → Outcome
 notBelow i count = refuseIf (leb count i) NotBelow
@@ -54,6 +73,32 @@ reductionChecks rows columns k m room =
     tooManyRows rows andThen badColumns columns andThen badK k andThen wrongLength rows columns (length m) andThen shortRoom 0 k columns room
     andThen dirtyPadding rows columns m
 
+-- the inverse: a matrix that is read, a result of as many words; a room for the matrix beside an identity, and the table
+abbrev pub inverseShape : ℕ → ℕ → ℕ → ℕ → ℕ → Outcome
+inverseShape rows columns k len result =
+    tooManyRows rows andThen badColumns columns andThen notSquare rows columns andThen badK k andThen wrongLength rows columns len
+    andThen wrongBuffer rows columns result
+
+abbrev pub inverseChecks : ℕ → ℕ → ℕ → List ℕ → ℕ → ℕ → Outcome
+inverseChecks rows columns k m result room =
+    inverseShape rows columns k (length m) result andThen shortRoom rows k (rows + columns) room andThen dirtyPadding rows columns m
+
+-- solving: an image of n blocks, and their marks
+abbrev pub solvingChecks : ℕ → ℕ → ℕ → ℕ → List ℕ → ℕ → ℕ → ℕ → Outcome
+solvingChecks rows columns n k m image marks room =
+    tooManyRows rows andThen badColumns columns andThen badBlocks n columns andThen badK k andThen wrongLength rows columns (length m)
+    andThen wrongBuffer n (columns - n) image andThen wrongMarks n marks andThen shortRoom 0 k columns room andThen dirtyPadding rows columns m
+
+-- the contradiction call: the words that name packets; a room for the packets beside an identity, and the table
+abbrev pub contradictionShape : ℕ → ℕ → ℕ → ℕ → ℕ → ℕ → Outcome
+contradictionShape rows columns n k len named =
+    tooManyRows rows andThen badColumns columns andThen badBlocks n columns andThen tooWide columns rows andThen badK k andThen wrongLength rows columns len
+    andThen wrongBuffer 1 rows named
+
+abbrev pub contradictionChecks : ℕ → ℕ → ℕ → ℕ → List ℕ → ℕ → ℕ → Outcome
+contradictionChecks rows columns n k m named room =
+    contradictionShape rows columns n k (length m) named andThen shortRoom rows k (columns + rows) room andThen dirtyPadding rows columns m
+
 -- ---- what passing means
 
 pub record ReductionPasses (rows columns k : ℕ) (m : List ℕ) (room : ℕ) : Type 0 where
@@ -72,3 +117,39 @@ pub record ViewPasses (rows columns len i : ℕ) : Type 0 where
   pub wide : columns ≤ 1024
   pub exact : len ≡ rows * wordsOf columns
   pub below : i < rows
+
+pub record InversePasses (rows columns k : ℕ) (m : List ℕ) (result room : ℕ) : Type 0 where
+  pub few : rows ≤ 512
+  pub some : 0 < columns
+  pub square : rows ≡ columns
+  pub least : 0 < k
+  pub most : k ≤ 8
+  pub exact : length m ≡ rows * wordsOf columns
+  pub fitting : result ≡ rows * wordsOf columns
+  pub roomy : (rows + 2 ^ k) * wordsOf (rows + columns) ≤ room
+  pub clean : (i : ℕ) → row (rowsOf (wordsOf columns) rows m) i < 2 ^ columns
+
+pub record SolvingPasses (rows columns n k : ℕ) (m : List ℕ) (image marks room : ℕ) : Type 0 where
+  pub few : rows ≤ 512
+  pub wide : columns ≤ 1024
+  pub block : 0 < n
+  pub payload : n < columns
+  pub least : 0 < k
+  pub most : k ≤ 8
+  pub exact : length m ≡ rows * wordsOf columns
+  pub fitting : image ≡ n * wordsOf (columns - n)
+  pub marked : marks ≡ n
+  pub roomy : 2 ^ k * wordsOf columns ≤ room
+  pub clean : (i : ℕ) → row (rowsOf (wordsOf columns) rows m) i < 2 ^ columns
+
+pub record ContradictionPasses (rows columns n k : ℕ) (m : List ℕ) (named room : ℕ) : Type 0 where
+  pub few : rows ≤ 512
+  pub block : 0 < n
+  pub payload : n < columns
+  pub wide : columns + rows ≤ 1024
+  pub least : 0 < k
+  pub most : k ≤ 8
+  pub exact : length m ≡ rows * wordsOf columns
+  pub fitting : named ≡ wordsOf rows
+  pub roomy : (rows + 2 ^ k) * wordsOf (columns + rows) ≤ room
+  pub clean : (i : ℕ) → row (rowsOf (wordsOf columns) rows m) i < 2 ^ columns

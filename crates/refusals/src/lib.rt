@@ -1,11 +1,11 @@
 // The refusals, and the checks that give them: each check once, total and exact for all numbers.
 ghost use mathlib.Core.Path.{_≡_};
-ghost use Prim.Native.Nat.{_+_, _*_, _%_, _^_, _≤_, _<_};
+ghost use Prim.Native.Nat.{_+_, _-_, _*_, _%_, _^_, _≤_, _<_};
 ghost use lib.Dec.{eqb, ltb};
 ghost use lib.ListN.{length};
 ghost use Rattle.words.specs.Words.{wordsOf, rowsOf};
 ghost use Rattle.refusals.specs.Outcome.{numberOf, outcomeNumber, refuseIf, _andThen_};
-ghost use Rattle.refusals.specs.Checks.{tooManyRows, badColumns, badK, wrongLength, shortRoom, notBelow, narrow, holdsRows, dirtyPadding, viewChecks, reductionChecks};
+ghost use Rattle.refusals.specs.Checks.{tooManyRows, badColumns, badK, wrongLength, shortRoom, badBlocks, notSquare, tooWide, wrongBuffer, wrongMarks, notBelow, narrow, holdsRows, dirtyPadding, viewChecks, reductionChecks, inverseShape, inverseChecks, solvingChecks, contradictionShape, contradictionChecks};
 
 pub enum Refusal {
     TooManyRows,
@@ -176,6 +176,46 @@ pub fn short_room(more: usize, k: usize, columns: usize, room: usize) -> Outcome
     refuse_if(is_short(room, more, k, words(columns)), Refusal::ShortRoom)
 }
 
+pub fn bad_blocks(n: usize, columns: usize) -> Outcome
+    ensures { λ r. ⌜ r ≡ badBlocks n columns ⌝ }
+{
+    refuse_if(n == 0, Refusal::BadBlocks).and_then(refuse_if(columns <= n, Refusal::BadBlocks))
+}
+
+pub fn not_square(rows: usize, columns: usize) -> Outcome
+    ensures { λ r. ⌜ r ≡ notSquare rows columns ⌝ }
+{
+    refuse_if(rows != columns, Refusal::NotSquare)
+}
+
+// whether a + b is over 1,024, without adding
+fn is_over(a: usize, b: usize) -> bool
+    ensures { λ r. ⌜ r ≡ ltb 1024 (a + b) ⌝ }
+{
+    if 1024 < a {
+        return true;
+    }
+    1024 - a < b
+}
+
+pub fn too_wide(columns: usize, packets: usize) -> Outcome
+    ensures { λ r. ⌜ r ≡ tooWide columns packets ⌝ }
+{
+    refuse_if(is_over(columns, packets), Refusal::TooWide)
+}
+
+pub fn wrong_buffer(rows: usize, columns: usize, len: usize) -> Outcome
+    ensures { λ r. ⌜ r ≡ wrongBuffer rows columns len ⌝ }
+{
+    refuse_if(!is_product(len, rows, words(columns)), Refusal::WrongBuffer)
+}
+
+pub fn wrong_marks(n: usize, len: usize) -> Outcome
+    ensures { λ r. ⌜ r ≡ wrongMarks n len ⌝ }
+{
+    refuse_if(len != n, Refusal::WrongBuffer)
+}
+
 pub fn not_below(i: usize, count: usize) -> Outcome
     ensures { λ r. ⌜ r ≡ notBelow i count ⌝ }
 {
@@ -246,4 +286,109 @@ pub fn reduction(m: &[u64], rows: usize, columns: usize, k: usize, room: usize) 
     let p = o.and_then(wrong_length(rows, columns, m.len()))
         .and_then(short_room(0, k, columns, room));
     p.and_then(dirty_padding(m, rows, columns))
+}
+
+// the inverse's checks of numbers and lengths
+fn inverse_shape(rows: usize, columns: usize, k: usize, len: usize, result: usize) -> Outcome
+    ensures { λ r. ⌜ r ≡ inverseShape rows columns k len result ⌝ }
+{
+    let o = too_many_rows(rows)
+        .and_then(bad_columns(columns))
+        .and_then(not_square(rows, columns));
+    o.and_then(bad_k(k))
+        .and_then(wrong_length(rows, columns, len))
+        .and_then(wrong_buffer(rows, columns, result))
+}
+
+// the inverse's checks
+pub fn inverse(
+    m: &[u64],
+    rows: usize,
+    columns: usize,
+    k: usize,
+    result: usize,
+    room: usize,
+) -> Outcome
+    ensures { λ r. ⌜ r ≡ inverseChecks rows columns k (now (m .entry)) result room ⌝ }
+{
+    let o = inverse_shape(rows, columns, k, m.len(), result);
+    match o {
+        Outcome::Refused(r) => Outcome::Refused(r),
+        Outcome::Done => {
+            let p = short_room(rows, k, rows + columns, room);
+            p.and_then(dirty_padding(m, rows, columns))
+        }
+    }
+}
+
+// the columns past n
+fn past(columns: usize, n: usize) -> usize
+    ensures { λ r. ⌜ r ≡ columns - n ⌝ }
+{
+    if n < columns { columns - n } else { 0 }
+}
+
+// the checks of solving
+pub fn solving(
+    m: &[u64],
+    rows: usize,
+    columns: usize,
+    n: usize,
+    k: usize,
+    image: usize,
+    marks: usize,
+    room: usize,
+) -> Outcome
+    ensures { λ r. ⌜ r ≡ solvingChecks rows columns n k (now (m .entry)) image marks room ⌝ }
+{
+    let o = too_many_rows(rows)
+        .and_then(bad_columns(columns))
+        .and_then(bad_blocks(n, columns));
+    let p = o.and_then(bad_k(k))
+        .and_then(wrong_length(rows, columns, m.len()))
+        .and_then(wrong_buffer(n, past(columns, n), image));
+    p.and_then(wrong_marks(n, marks))
+        .and_then(short_room(0, k, columns, room))
+        .and_then(dirty_padding(m, rows, columns))
+}
+
+// the contradiction call's checks of numbers and lengths
+fn contradiction_shape(
+    rows: usize,
+    columns: usize,
+    n: usize,
+    k: usize,
+    len: usize,
+    named: usize,
+) -> Outcome
+    ensures { λ r. ⌜ r ≡ contradictionShape rows columns n k len named ⌝ }
+{
+    let o = too_many_rows(rows)
+        .and_then(bad_columns(columns))
+        .and_then(bad_blocks(n, columns));
+    let p = o.and_then(too_wide(columns, rows)).and_then(bad_k(k));
+    p.and_then(wrong_length(rows, columns, len))
+        .and_then(wrong_buffer(1, rows, named))
+}
+
+// the checks of the contradiction call
+pub fn contradiction(
+    m: &[u64],
+    rows: usize,
+    columns: usize,
+    n: usize,
+    k: usize,
+    named: usize,
+    room: usize,
+) -> Outcome
+    ensures { λ r. ⌜ r ≡ contradictionChecks rows columns n k (now (m .entry)) named room ⌝ }
+{
+    let o = contradiction_shape(rows, columns, n, k, m.len(), named);
+    match o {
+        Outcome::Refused(r) => Outcome::Refused(r),
+        Outcome::Done => {
+            let p = short_room(rows, k, columns + rows, room);
+            p.and_then(dirty_padding(m, rows, columns))
+        }
+    }
 }

@@ -1,0 +1,89 @@
+-- The checks in order.
+use Rattle.refusals.specs.Checks.{wrongBuffer}
+use Rattle.refusals.specs.Outcome.{_andThen_}
+use Prim.Native.Nat.{ℕ}
+use mathlib.Core.Path.{ap, ap₂, _∙_}
+use borrow.Author.Needs.{needs}
+use Rattle.refusals.proofs.solving.Statement.{statement}
+use Rattle.refusals.proofs.solving.Tie as tie
+
+too-many-rows-requires : tie.Need-too-many-rows-requires
+too-many-rows-requires c κs = search needs
+
+bad-columns-requires : tie.Need-bad-columns-requires
+bad-columns-requires c κs = search needs
+
+and-then-requires : tie.Need-and-then-requires
+and-then-requires c κs = search needs
+
+bad-blocks-requires : tie.Need-bad-blocks-requires
+bad-blocks-requires c κs = search needs
+
+and-then-requires-2 : tie.Need-and-then-requires-2
+and-then-requires-2 c κs = search needs
+
+bad-k-requires : tie.Need-bad-k-requires
+bad-k-requires c κs = search needs
+
+and-then-requires-3 : tie.Need-and-then-requires-3
+and-then-requires-3 c κs = search needs
+
+wrong-length-requires : tie.Need-wrong-length-requires
+wrong-length-requires c κs = search needs
+
+and-then-requires-4 : tie.Need-and-then-requires-4
+and-then-requires-4 c κs = search needs
+
+past-requires : tie.Need-past-requires
+past-requires c κs = search needs
+
+wrong-buffer-requires : tie.Need-wrong-buffer-requires
+wrong-buffer-requires c κs = search needs
+
+and-then-requires-5 : tie.Need-and-then-requires-5
+and-then-requires-5 c κs = search needs
+
+wrong-marks-requires : tie.Need-wrong-marks-requires
+wrong-marks-requires c κs = search needs
+
+and-then-requires-6 : tie.Need-and-then-requires-6
+and-then-requires-6 c κs = search needs
+
+short-room-requires : tie.Need-short-room-requires
+short-room-requires c κs = search needs
+
+and-then-requires-7 : tie.Need-and-then-requires-7
+and-then-requires-7 c κs = search needs
+
+dirty-padding-requires : tie.Need-dirty-padding-requires
+dirty-padding-requires c κs = search needs
+
+and-then-requires-8 : tie.Need-and-then-requires-8
+and-then-requires-8 c κs = search needs
+
+returns : tie.Need-returns
+returns c = let g = c .before .before .before .before .before .before .before .before .before .before .before .before .before .before .before .before .before .before .before .args in c .and-then8 .ensures ∙ ap₂ _andThen_ (c .before .before .and-then7 .ensures ∙ ap₂ _andThen_ (c .before .before .before .before .and-then6 .ensures ∙ ap₂ _andThen_ (c .before .before .before .before .before .before .and-then5 .ensures ∙ ap₂ _andThen_ (c .before .before .before .before .before .before .before .before .before .and-then4 .ensures ∙ ap₂ _andThen_ (c .before .before .before .before .before .before .before .before .before .before .before .and-then3 .ensures ∙ ap₂ _andThen_ (c .before .before .before .before .before .before .before .before .before .before .before .before .before .and-then2 .ensures ∙ ap₂ _andThen_ (c .before .before .before .before .before .before .before .before .before .before .before .before .before .before .before .and-then .ensures ∙ ap₂ _andThen_ (c .before .before .before .before .before .before .before .before .before .before .before .before .before .before .before .before .before .too-many-rows .ensures) (c .before .before .before .before .before .before .before .before .before .before .before .before .before .before .before .before .bad-columns .ensures)) (c .before .before .before .before .before .before .before .before .before .before .before .before .before .before .bad-blocks .ensures)) (c .before .before .before .before .before .before .before .before .before .before .before .before .bad-k .ensures)) (c .before .before .before .before .before .before .before .before .before .before .wrong-length .ensures)) (c .before .before .before .before .before .before .before .wrong-buffer .ensures ∙ ap (λ (p : ℕ). wrongBuffer (g .n) p (g .image)) (c .before .before .before .before .before .before .before .before .past .ensures))) (c .before .before .before .before .before .wrong-marks .ensures)) (c .before .before .before .short-room .ensures)) (c .before .dirty-padding .ensures)
+
+pub solving-spec : {M : Type 1} → statement M
+solving-spec =
+    tie.close
+    (tie.spec
+    too-many-rows-requires
+    bad-columns-requires
+    and-then-requires
+    bad-blocks-requires
+    and-then-requires-2
+    bad-k-requires
+    and-then-requires-3
+    wrong-length-requires
+    and-then-requires-4
+    past-requires
+    wrong-buffer-requires
+    and-then-requires-5
+    wrong-marks-requires
+    and-then-requires-6
+    short-room-requires
+    and-then-requires-7
+    dirty-padding-requires
+    and-then-requires-8
+    returns)
