@@ -111,12 +111,6 @@ k-done k e =
 pub done-k : (k : ℕ) → 0 < k → k ≤ 8 → badK k ≡ Done
 done-k k h l = done-then (done-if _ (ne-eqb k 0 (λ e. omega arith))) (done-if _ (le-ltb 8 k l))
 
-length-done : (rows columns len : ℕ) → wrongLength rows columns len ≡ Done → len ≡ rows * wordsOf columns
-length-done rows columns len e = eqb-true len (rows * wordsOf columns) (not-false (eqb len (rows * wordsOf columns)) (if-done (not (eqb len (rows * wordsOf columns))) _ e))
-
-done-length : (rows columns len : ℕ) → len ≡ rows * wordsOf columns → wrongLength rows columns len ≡ Done
-done-length rows columns len h = done-if _ (ap not (eq-eqb len (rows * wordsOf columns) h))
-
 blocks-done : (n columns : ℕ) → badBlocks n columns ≡ Done → (0 < n) × (n < columns)
 blocks-done n columns e =
     let t = then-done (refuseIf (eqb n 0) _) (refuseIf (leb columns n) _) e in
@@ -165,7 +159,7 @@ module _ (rows columns k : ℕ) (m : List ℕ) (room : ℕ) where
       let t₃ = then-done (tooManyRows rows andThen badColumns columns andThen badK k) (wrongLength rows columns (length m)) (t₄ .0) in
       let t₂ = then-done (tooManyRows rows andThen badColumns columns) (badK k) (t₃ .0) in
       let t₁ = then-done (tooManyRows rows) (badColumns columns) (t₂ .0) in
-      let exact = length-done rows columns (length m) (t₃ .1) in
+      let exact = same-done WrongLength (length m) (rows * wordsOf columns) (t₃ .1) in
       record {
         few = few-done rows (t₁ .0);
         some = columns-done columns (t₁ .1) .0;
@@ -179,7 +173,7 @@ module _ (rows columns k : ℕ) (m : List ℕ) (room : ℕ) where
 
   pub passes-reduction : ReductionPasses rows columns k m room → reductionChecks rows columns k m room ≡ Done
   passes-reduction p =
-      done-then (done-then (done-then (done-then (done-then (done-few rows (p .few)) (done-columns columns (p .some) (p .wide))) (done-k k (p .least) (p .most))) (done-length rows columns (length m) (p .exact)))
+      done-then (done-then (done-then (done-then (done-then (done-few rows (p .few)) (done-columns columns (p .some) (p .wide))) (done-k k (p .least) (p .most))) (done-same WrongLength (length m) (rows * wordsOf columns) (p .exact)))
       (done-room 0 k columns room (omega (arith, table-only k (wordsOf columns), p .roomy))))
       (done-padding rows columns m (p .exact) (p .clean))
 
@@ -193,13 +187,13 @@ module _ (rows columns len i : ℕ) where
         few = few-done rows (t₁ .0);
         some = columns-done columns (t₁ .1) .0;
         wide = columns-done columns (t₁ .1) .1;
-        exact = length-done rows columns len (t₂ .1);
+        exact = same-done WrongLength len (rows * wordsOf columns) (t₂ .1);
         below = leb-false rows i (if-done (leb rows i) _ (t₃ .1));
       }
 
   pub passes-view : ViewPasses rows columns len i → viewChecks rows columns len i ≡ Done
   passes-view p =
-      done-then (done-then (done-then (done-few rows (p .few)) (done-columns columns (p .some) (p .wide))) (done-length rows columns len (p .exact))) (done-if _ (lt-leb rows i (p .below)))
+      done-then (done-then (done-then (done-few rows (p .few)) (done-columns columns (p .some) (p .wide))) (done-same WrongLength len (rows * wordsOf columns) (p .exact))) (done-if _ (lt-leb rows i (p .below)))
 
 -- ---- after the checks of numbers and lengths the room's width can be added up
 
@@ -248,7 +242,7 @@ module _ (rows columns k : ℕ) (m : List ℕ) (result room : ℕ) where
       let t₃ = then-done a₂ (badK k) (t₄ .0) in
       let t₂ = then-done a₁ (notSquare rows columns) (t₃ .0) in
       let t₁ = then-done (tooManyRows rows) (badColumns columns) (t₂ .0) in
-      let exact = length-done rows columns (length m) (t₄ .1) in
+      let exact = same-done WrongLength (length m) (rows * wordsOf columns) (t₄ .1) in
       record {
         few = few-done rows (t₁ .0);
         some = columns-done columns (t₁ .1) .0;
@@ -264,7 +258,7 @@ module _ (rows columns k : ℕ) (m : List ℕ) (result room : ℕ) where
   pub passes-inverse : InversePasses rows columns k m result room → inverseChecks rows columns k m result room ≡ Done
   passes-inverse p =
       done-then (done-then (done-then (done-then (done-then (done-then (done-then (done-few rows (p .few)) (done-columns columns (p .some) (omega (arith, p .few, p .square))))
-      (done-same NotSquare rows columns (p .square))) (done-k k (p .least) (p .most))) (done-length rows columns (length m) (p .exact)))
+      (done-same NotSquare rows columns (p .square))) (done-k k (p .least) (p .most))) (done-same WrongLength (length m) (rows * wordsOf columns) (p .exact)))
       (done-same WrongBuffer result (rows * wordsOf columns) (p .fitting))) (done-room rows k (rows + columns) room (p .roomy)))
       (done-padding rows columns m (p .exact) (p .clean))
 
@@ -286,7 +280,7 @@ module _ (rows columns n k : ℕ) (m : List ℕ) (image marks room : ℕ) where
       let t₃ = then-done a₂ (badK k) (t₄ .0) in
       let t₂ = then-done a₁ (badBlocks n columns) (t₃ .0) in
       let t₁ = then-done (tooManyRows rows) (badColumns columns) (t₂ .0) in
-      let exact = length-done rows columns (length m) (t₄ .1) in
+      let exact = same-done WrongLength (length m) (rows * wordsOf columns) (t₄ .1) in
       record {
         few = few-done rows (t₁ .0);
         wide = columns-done columns (t₁ .1) .1;
@@ -304,7 +298,7 @@ module _ (rows columns n k : ℕ) (m : List ℕ) (image marks room : ℕ) where
   pub passes-solving : SolvingPasses rows columns n k m image marks room → solvingChecks rows columns n k m image marks room ≡ Done
   passes-solving p =
       done-then (done-then (done-then (done-then (done-then (done-then (done-then (done-then (done-few rows (p .few)) (done-columns columns (omega (arith, p .payload)) (p .wide)))
-      (done-blocks n columns (p .block) (p .payload))) (done-k k (p .least) (p .most))) (done-length rows columns (length m) (p .exact)))
+      (done-blocks n columns (p .block) (p .payload))) (done-k k (p .least) (p .most))) (done-same WrongLength (length m) (rows * wordsOf columns) (p .exact)))
       (done-same WrongBuffer image (n * wordsOf (columns - n)) (p .fitting))) (done-same WrongBuffer marks n (p .marked)))
       (done-room 0 k columns room (omega (arith, table-only k (wordsOf columns), p .roomy))))
       (done-padding rows columns m (p .exact) (p .clean))
@@ -327,7 +321,7 @@ module _ (rows columns n k : ℕ) (m : List ℕ) (named room : ℕ) where
       let t₃ = then-done a₂ (tooWide columns rows) (t₄ .0) in
       let t₂ = then-done a₁ (badBlocks n columns) (t₃ .0) in
       let t₁ = then-done (tooManyRows rows) (badColumns columns) (t₂ .0) in
-      let exact = length-done rows columns (length m) (t₅ .1) in
+      let exact = same-done WrongLength (length m) (rows * wordsOf columns) (t₅ .1) in
       record {
         few = few-done rows (t₁ .0);
         block = blocks-done n columns (t₂ .1) .0;
@@ -344,6 +338,6 @@ module _ (rows columns n k : ℕ) (m : List ℕ) (named room : ℕ) where
   pub passes-contradiction : ContradictionPasses rows columns n k m named room → contradictionChecks rows columns n k m named room ≡ Done
   passes-contradiction p =
       done-then (done-then (done-then (done-then (done-then (done-then (done-then (done-then (done-few rows (p .few)) (done-columns columns (omega (arith, p .payload)) (omega (arith, p .wide))))
-      (done-blocks n columns (p .block) (p .payload))) (done-if TooWide (le-ltb 1024 (columns + rows) (p .wide)))) (done-k k (p .least) (p .most))) (done-length rows columns (length m) (p .exact)))
+      (done-blocks n columns (p .block) (p .payload))) (done-if TooWide (le-ltb 1024 (columns + rows) (p .wide)))) (done-k k (p .least) (p .most))) (done-same WrongLength (length m) (rows * wordsOf columns) (p .exact)))
       (done-same WrongBuffer named (1 * wordsOf rows) (p .fitting ∙ sym (one-mul (wordsOf rows))))) (done-room rows k (columns + rows) room (p .roomy)))
       (done-padding rows columns m (p .exact) (p .clean))

@@ -36,6 +36,10 @@ pub fn less(n: usize) -> usize {
     if n == 0 { 0 } else { n - 1 }
 }
 
+pub fn wide(x: usize) -> u64 {
+    x as u64
+}
+
 // the words of a row
 pub fn width(columns: usize) -> usize {
     if columns % 64 == 0 {

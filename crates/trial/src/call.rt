@@ -9,10 +9,6 @@ struct Wanted {
     zeros: usize,
 }
 
-fn wide(x: usize) -> u64 {
-    x as u64
-}
-
 fn pivot(x: u16) -> u64 {
     x as u64
 }
@@ -36,7 +32,7 @@ fn foresee(
     let rank = plain::reduce(m, rows, columns, pivots);
     Wanted {
         rank: rank,
-        additions: plain::additions(pivots, rank, wide(k)),
+        additions: plain::additions(pivots, rank, buffer::wide(k)),
         zeros: buffer::place(buffer::pow2(k), buffer::width(columns), 0),
     }
 }
@@ -58,7 +54,7 @@ fn answered(a: Answer, number: u8, want: Wanted, pivots: &[u64; 512]) -> bool {
     if outcome.number() != number {
         return false;
     }
-    if a.rank != want.rank || a.known != 0 || wide(a.additions) != want.additions {
+    if a.rank != want.rank || a.known != 0 || buffer::wide(a.additions) != want.additions {
         return false;
     }
     let p = a.pivots;

@@ -60,10 +60,6 @@ fn clear(m: &mut [u64], w: usize, rows: usize, p: usize, c: usize) {
     }
 }
 
-fn wide(x: usize) -> u64 {
-    x as u64
-}
-
 // column c, after that many pivots; the number of pivots then
 fn column(
     m: &mut [u64],
@@ -82,7 +78,7 @@ fn column(
     }
     swap(m, w, rank, p);
     clear(m, w, rows, rank, c);
-    buffer::put(pivots, rank, wide(c));
+    buffer::put(pivots, rank, buffer::wide(c));
     rank + 1
 }
 
