@@ -1,24 +1,24 @@
 -- The core's test of its shapes says exactly whether they fit.
-use mathlib.Core.Path.{_≡_, refl, sym, ap, ap₂, _∙_, subst}
+use mathlib.Core.Path.{_≡_, sym, ap, ap₂, _∙_, subst}
 use mathlib.Core.Logic.{_≢_}
-use mathlib.Core.Bool.{Bool, true, false, _&&_}
+use mathlib.Core.Bool.{Bool, true, false}
 use mathlib.Core.List.{List, _++_, append-assoc}
 use Prim.Native.Nat.{ℕ, _+_, _*_, _^_, _≤_, _<_}
 use native.Mathlib.Nat.{zero-add, add-mul}
 use native.Mathlib.Omega.{arith}
-use borrow.Author.Tests.{ltb-false, le-ltb, leb-true, le-leb}
-use lib.Dec.{T, ltb, leb}
+use borrow.Author.Tests.{ltb-false, le-ltb}
+use lib.Dec.{T, ltb}
 use lib.ListN.{length, getD, take, drop, replicate, length-replicate}
 use lib.Seq.{drop-at, length-take-le, take-all}
 use Rattle.words.specs.Words.{wordsOf, rowsOf}
 use Rattle.refusals.specs.declared.Outcome.{Outcome}
 use Rattle.refusals.specs.declared.Outcome.the-variants.{Done}
-use Rattle.refusals.specs.Outcome.{outcomeNumber, _andThen_}
-use Rattle.refusals.specs.Checks.{badColumns, badK, shortRoom, holdsRows, narrow}
-use Rattle.refusals.proofs.Padding.{narrow-all, narrow-row}
+use Rattle.refusals.specs.Outcome.{outcomeNumber, Decides, _andThen_}
+use Rattle.refusals.specs.Checks.{badColumns, badK, shortRoom, holdsRows}
+use Rattle.refusals.proofs.Padding.{holds-exactly}
 use Rattle.refusals.proofs.Passed.{number-zero, then-done, done-then, done-if, if-done, columns-done, k-done, done-columns, done-k}
 use Rattle.words.proofs.Rows.{rows-past}
-use Rattle.engine.specs.Core.{Fits, Decides, Reduction, zeroed, twoSlices, oneRoom}
+use Rattle.engine.specs.Core.{Fits, Reduction, zeroed, twoSlices, oneRoom}
 use Rattle.engine.specs.Stage.{Whole}
 
 module _ (rows columns k more room list : ℕ) (m : List ℕ) where
@@ -32,14 +32,6 @@ module _ (rows columns k more room list : ℕ) (m : List ℕ) where
   pub wrong-shape : (o : Outcome) → o ≡ shape → outcomeNumber o ≢ 0 → Fits rows columns k more room list m → ⊥
   wrong-shape o e h f = h (ap outcomeNumber (e ∙ fits-shape f))
 
-  held : holdsRows rows columns m ≡ true → (rows * wordsOf columns ≤ length m) × (narrow columns (rowsOf (wordsOf columns) rows m) ≡ true)
-  held e = go (leb (rows * wordsOf columns) (length m)) refl e
-    where
-      go : (b : Bool) → leb (rows * wordsOf columns) (length m) ≡ b → b && narrow columns (rowsOf (wordsOf columns) rows m) ≡ true
-          → (rows * wordsOf columns ≤ length m) × (narrow columns (rowsOf (wordsOf columns) rows m) ≡ true)
-      go true t e = (leb-true (rows * wordsOf columns) (length m) t, e)
-      go false t e = absurd (subst T (sym e) tt)
-
   pub right-shape : (o : Outcome) → o ≡ shape → outcomeNumber o ≡ 0 → rows ≤ 1024 → rows ≤ list → (b : Bool) → b ≡ holdsRows rows columns m → Decides b (Fits rows columns k more room list m)
   right-shape o e z few listed true t =
       let s = then-done (badColumns columns andThen badK k) (shortRoom more k columns room) (sym e ∙ number-zero o z) in
@@ -52,12 +44,10 @@ module _ (rows columns k more room list : ℕ) (m : List ℕ) where
         most = k-done k (u .1) .1;
         roomy = ltb-false room ((more + 2 ^ k) * wordsOf columns) (if-done (ltb room ((more + 2 ^ k) * wordsOf columns)) _ (s .1));
         listed = listed;
-        held = held (sym t) .0;
-        clean = narrow-row columns (rowsOf (wordsOf columns) rows m) (held (sym t) .1);
+        held = holds-exactly rows columns m .0 (sym t) .0;
+        clean = holds-exactly rows columns m .0 (sym t) .1;
       }
-  right-shape o e z few listed false t = λ f.
-      let h : holdsRows rows columns m ≡ true = ap₂ _&&_ (le-leb (rows * wordsOf columns) (length m) (f .held)) (sym (narrow-all columns (rowsOf (wordsOf columns) rows m) (λ i l. f .clean i))) in
-      subst T (sym (t ∙ h)) tt
+  right-shape o e z few listed false t = λ f. subst T (sym (t ∙ holds-exactly rows columns m .1 (f .held, f .clean))) tt
 
 -- what the loop over the windows needs, where no pivot is recorded yet
 pub whole : (rows columns k more room list w : ℕ) (m cols : List ℕ) → w ≡ wordsOf columns → Fits rows columns k more room list m → length cols ≡ list → ((i : ℕ) → i < list → getD cols i 0 ≡ 65535) → Whole w rows columns k m cols

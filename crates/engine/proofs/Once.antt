@@ -4,13 +4,13 @@ use mathlib.Core.Bool.{Bool, true, false}
 use mathlib.Core.List.{List, _++_}
 use Prim.Native.Nat.{ℕ, _-_, _*_, _≤_}
 use native.Mathlib.Omega.{arith}
-use lib.ListN.{length, drop, replicate, take-append-drop}
-use Rattle.gf2.specs.Reduced.{pivots, rank}
+use lib.ListN.{length, drop, take-append-drop}
+use Rattle.gf2.specs.Reduced.{rank}
 use Rattle.gf2.specs.Additions.{additions}
 use Rattle.gf2.proofs.Reduced.{one-reduced-form}
 use Rattle.words.specs.Words.{Fit, wordsOf, rowsOf}
 use Rattle.words.proofs.Rows.{rows-one}
-use Rattle.engine.specs.Core.{Reduction, twoSlices, oneRoom}
+use Rattle.engine.specs.Core.{pivotRecord, Reduction, twoSlices, oneRoom}
 
 -- a slice after a call: as long as before, of words that fit
 pub record Slice (m m′ : List ℕ) : Type 0 where
@@ -32,7 +32,7 @@ module _ {k columns ranked added ranked₂ added₂ : ℕ} {L N N₂ list list�
   one-count = (
     f .rank-is ∙ ap rank one-matrix ∙ sym (g .rank-is),
     f .additions-are ∙ ap (additions k columns) one-matrix ∙ sym (g .additions-are),
-    f .pivots-are ∙ ap₂ (λ (X : List ℕ) (x : ℕ). pivots X ++ replicate (x - rank X) 65535) one-matrix l ∙ sym (g .pivots-are),
+    f .pivots-are ∙ ap₂ (λ (X : List ℕ) (x : ℕ). pivotRecord x X) one-matrix l ∙ sym (g .pivots-are),
   )
 
 module _ (rows columns k : ℕ) (m t list : List ℕ) where

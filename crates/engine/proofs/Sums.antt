@@ -14,6 +14,7 @@ use lib.Seq.{paste, ext-getD, getD-set-same, getD-set-other, set-getD, length-pa
 use Rattle.gf2.specs.Additions.{tableAdditions}
 use Rattle.gf2.specs.Rows.{_⊕_, row, part, combine}
 use Rattle.gf2.proofs.Bits.{bit-above}
+use Rattle.gf2.proofs.Pivot.{trailing-pivot}
 use Rattle.gf2.proofs.Products.{is-tabulate}
 use Rattle.gf2.proofs.Space.{combine-zero, combine-pow}
 use Rattle.words.specs.Words.{Fit, value, rowsOf, xors}
@@ -21,7 +22,7 @@ use Rattle.words.proofs.Parts.{length-xors, length-part, getD-part, paste-befor
 use Rattle.words.proofs.Value.{part-sum, part-fits}
 use Rattle.words.proofs.Rows.{row-ends, getD-rows, length-rows, rows-paste}
 use Rattle.method.specs.Gray.{gray}
-use Rattle.method.proofs.Gray.{trailing-pivot, gray-onto, gray-step}
+use Rattle.method.proofs.Gray.{gray-onto, gray-step}
 use Rattle.method.proofs.Table.{table-step}
 use Rattle.method.proofs.Pending.{part-row}
 use Rattle.engine.specs.Stage.{rowAt, putRow, Table, Codes, cleared, tableIn}

@@ -22,17 +22,16 @@ pub record Fits (rows columns k more room list : ℕ) (m : List ℕ) : Type 0 wh
   pub held : rows * wordsOf columns ≤ length m
   pub clean : (i : ℕ) → row (rowsOf (wordsOf columns) rows m) i < 2 ^ columns
 
--- L has been reduced to N: rank, table additions and the pivots, with 65,535 behind them, are those of N
+-- a list of len places that holds the pivots of N, and 65,535 behind them
+abbrev pub pivotRecord : ℕ → List ℕ → List ℕ
+pivotRecord len N = pivots N ++ replicate (len - rank N) 65535
+
+-- L has been reduced to N: rank, table additions and the pivots are those of N
 pub record Reduction (k columns : ℕ) (L N : List ℕ) (ranked added : ℕ) (list : List ℕ) : Type 0 where
   pub form : ReducedForm L N
   pub rank-is : ranked ≡ rank N
   pub additions-are : added ≡ additions k columns N
-  pub pivots-are : list ≡ pivots N ++ replicate (length list - rank N) 65535
-
--- a test's answer
-abbrev pub Decides : Bool → Type 0 → Type 0
-Decides true A = A
-Decides false A = A → ⊥
+  pub pivots-are : list ≡ pivotRecord (length list) N
 
 -- len words from place a on have become zero
 abbrev pub zeroed : ℕ → ℕ → List ℕ → List ℕ

@@ -1,12 +1,13 @@
 // The reduction by the table, over lists of words: a total core for every call above it. Two forms, for matrix and table in two slices, and in one room.
 ghost use mathlib.Core.Path.{_≡_};
 ghost use mathlib.Core.Logic.{_⊎_};
-ghost use Prim.Native.Nat.{ℕ, _+_, _-_, _*_, _/_, _^_, _≤_, _<_};
+ghost use Prim.Native.Nat.{ℕ, _+_, _-_, _*_, _/_, _^_, _≤_, _<_, min};
 ghost use lib.ListN.{length, getD, drop};
 ghost use Rattle.gf2.specs.Additions.{windows, tableAdditions};
 ghost use Rattle.gf2.specs.Rows.{row};
 ghost use Rattle.words.specs.Words.{rowsOf};
-ghost use Rattle.engine.specs.Core.{Fits, Reduction, Decides, twoSlices, oneRoom};
+ghost use Rattle.refusals.specs.Outcome.{Decides};
+ghost use Rattle.engine.specs.Core.{Fits, Reduction, zeroed, twoSlices, oneRoom};
 ghost use Rattle.engine.specs.Stage.{Sizes, Stage, Book, Windowed, Whole};
 
 mod bytes;
@@ -269,5 +270,17 @@ pub fn eliminate_in(
         done: true,
         rank: rank,
         additions: additions,
+    }
+}
+
+// the first len words become zero, as far as there are so many
+pub fn blank(d: &mut [u64], len: usize)
+    ensures { λ _. ⌜ now (d .exit) ≡ zeroed 0 (min len (length (now (d .entry)))) (now (d .entry)) ⌝ }
+{
+    let n = d.len();
+    if len < n {
+        rows::zero(d, 0, len);
+    } else {
+        rows::zero(d, 0, n);
     }
 }

@@ -57,10 +57,10 @@ same-itself (x ∷ L) = go (eqb x x) (eqb-refl x) (same-itself L)
 pub begins-true : (n : ℕ) (M : List ℕ) → T (beginsWithIdentity n M) ↔ (leftOf n M ≡ identity n)
 begins-true n M = (same-true (leftOf n M) (identity n), λ e. rw e (same-itself (identity n)))
 
-left-row : (n : ℕ) (M : List ℕ) (i : ℕ) → row (leftOf n M) i ≡ row M i % 2 ^ n
+pub left-row : (n : ℕ) (M : List ℕ) (i : ℕ) → row (leftOf n M) i ≡ row M i % 2 ^ n
 left-row n = map-row (λ v. v % 2 ^ n) (zero-mod (2 ^ n))
 
-right-row : (n : ℕ) (M : List ℕ) (i : ℕ) → row (rightOf n M) i ≡ row M i / 2 ^ n
+pub right-row : (n : ℕ) (M : List ℕ) (i : ℕ) → row (rightOf n M) i ≡ row M i / 2 ^ n
 right-row n = map-row (λ v. v / 2 ^ n) (zero-div (2 ^ n))
 
 -- ---- an inverse, in the right half

@@ -5,9 +5,10 @@ use Prim.Native.Nat.{ℕ, zero, suc, _+_, _-_, _/_, _%_, _^_, _≤_, _<_}
 use native.Mathlib.Decide.{ℕ-discrete, decLt}
 use native.Mathlib.Nat.{le-antisymm}
 use native.Mathlib.Omega.{arith}
+use lib.Count.{trailingZeros, under}
 use Rattle.gf2.specs.Rows.{bit}
 use Rattle.gf2.specs.Reduced.{Pivot, zerosIn, pivot}
-use Rattle.gf2.proofs.Bits.{bit-low, bit-suc, bit-of-zero, bit-mod, bit-above, bit-mod-above, bit-shr, zero-ext, bit-pow, bit-pow-other}
+use Rattle.gf2.proofs.Bits.{digit-cases, half-lt, bit-low, bit-suc, bit-of-zero, bit-mod, bit-above, bit-mod-above, bit-shr, zero-ext, bit-pow, bit-pow-other}
 
 -- ---- the computed pivot
 
@@ -17,6 +18,16 @@ pivot-suc p v o f = record { one = bit-suc p v ∙ f .one; before = low }
     low : (c : ℕ) → c < suc p → bit c v ≡ 0
     low zero h = bit-low v ∙ o
     low (suc c) h = bit-suc c v ∙ f .before c (omega arith)
+
+-- read as a row, a number has its pivot where its trailing zeros end
+pub trailing-pivot : (k n : ℕ) → n < 2 ^ k → n ≢ 0 → Pivot (trailingZeros k n) n
+unfolding trailingZeros
+trailing-pivot zero n h z = absurd (omega arith)
+trailing-pivot (suc k) n h z = go (digit-cases (n % 2) (half-lt n)) (trailing-pivot k (n / 2) (omega arith))
+  where
+    go : (n % 2 ≡ 0) ⊎ (n % 2 ≡ 1) → (n / 2 ≢ 0 → Pivot (trailingZeros k (n / 2)) (n / 2)) → Pivot (under (n % 2) (trailingZeros k (n / 2))) n
+    go (inl e) ih = rw e (pivot-suc (trailingZeros k (n / 2)) n e (ih (omega arith)))
+    go (inr e) ih = rw e (record { one = bit-low n ∙ e; before = λ c l. absurd (omega arith) })
 
 zeros-pivot : (n b v : ℕ) → v % 2 ≡ b → v ≤ n → v ≢ 0 → Pivot (zerosIn n b v) v
 unfolding zerosIn

@@ -32,10 +32,10 @@ pub record Missing (a e : ℕ) (R : List ℕ) : Type 0 where
 
 -- ---- the test: nothing left of column a, something left of column e
 
-abbrev Inside : ℕ → ℕ → ℕ → Type 0
+abbrev pub Inside : ℕ → ℕ → ℕ → Type 0
 Inside a e r = (q : ℕ) × Pivot q r × (a ≤ q) × (q < e)
 
-inside-cases : (a e r : ℕ) → ((inside a e r ≡ true) × Inside a e r) ⊎ ((inside a e r ≡ false) × (Inside a e r → ⊥))
+pub inside-cases : (a e r : ℕ) → ((inside a e r ≡ true) × Inside a e r) ⊎ ((inside a e r ≡ false) × (Inside a e r → ⊥))
 unfolding inside
 inside-cases a e r = go (eqb (r % 2 ^ a) 0) (eqb (r % 2 ^ e) 0) refl refl
   where

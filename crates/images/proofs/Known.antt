@@ -15,7 +15,7 @@ use Rattle.gf2.specs.Reduced.{Pivot, Reduced}
 use Rattle.gf2.proofs.Space.{combine-pow, same-sym, same-narrow}
 use Rattle.gf2.proofs.Pivot.{pivot-narrow}
 use Rattle.images.specs.Packets.{Meets, MeetsAll, Met, Contradictory, Agreed}
-use Rattle.images.specs.ReadOff.{pivotRow, contradictory, known, content}
+use Rattle.images.specs.ReadOff.{pivotRow, hasPivot, contradictory, known, content}
 use Rattle.images.proofs.Found.{Found, Missing, found-cases, found-not-zero}
 use Rattle.images.proofs.Meeting.{meets-same, met-pivot}
 use Rattle.images.proofs.Solution.{rowOf, rowOf-cases, solution, solution-meets, solution-image, two-images}
@@ -45,7 +45,7 @@ module _ (n p : ℕ) (L R : List ℕ) (narrow : (i : ℕ) → row L i < 2 ^ (n +
 
   -- refused exactly if no image meets all packets
   pub contradictory-exactly : T (contradictory n p R) ↔ Contradictory n p L
-  unfolding contradictory
+  unfolding hasPivot
   contradictory-exactly = (to (found-cases n (n + p) R), back (found-cases n (n + p) R))
     where
       to : Missing n (n + p) R ⊎ Found n (n + p) R → T (contradictory n p R) → Contradictory n p L

@@ -10,7 +10,7 @@ use Rattle.gf2.specs.Rows.{row, SameRowSpace}
 use Rattle.gf2.specs.Reduced.{Reduced}
 use Rattle.gf2.proofs.Space.{same-sym, same-trans}
 use Rattle.images.specs.Packets.{Met, Contradictory, Agreed, Among}
-use Rattle.images.specs.ReadOff.{contradictory, known, content}
+use Rattle.images.specs.ReadOff.{hasPivot, contradictory, known, content}
 use Rattle.images.proofs.Found.{same-pivotRow}
 use Rattle.images.proofs.Meeting.{meets-among, same-packets}
 use Rattle.images.proofs.Known.{contradictory-exactly, known-exactly, content-theirs, met-cases}
@@ -19,7 +19,7 @@ use Rattle.images.proofs.Known.{contradictory-exactly, known-exactly, c
 
 module _ (R S : List ℕ) (hR : Reduced R) (hS : Reduced S) (same : SameRowSpace R S) where
   pub same-contradictory : (n p : ℕ) → contradictory n p R ≡ contradictory n p S
-  unfolding contradictory
+  unfolding hasPivot
   same-contradictory n p = ap (λ (v : ℕ). not (eqb v 0)) (same-pivotRow n (n + p) R S hR hS same)
 
   pub same-known : (n j : ℕ) → known n R j ≡ known n S j

@@ -25,7 +25,7 @@ use Rattle.images.proofs.Known.{missing-met}
 
 module _ (n p : ℕ) (L R : List ℕ) (narrow : (i : ℕ) → row L i < 2 ^ (n + p)) (hR : Reduced R) (same : SameRowSpace (adjoin (n + p) L) R) where
   -- the row found names packets that contradict each other
-  found-names : Found n (n + p) R → Contradiction n L (named n p R)
+  pub found-names : Found n (n + p) R → Contradiction n L (named n p R)
   unfolding named
   found-names t =
       let v : ℕ = row R (t .at) in
@@ -46,7 +46,7 @@ module _ (n p : ℕ) (L R : List ℕ) (narrow : (i : ℕ) → row L i < 2 ^ (n +
       let k = space-pivot R hR u (t .column) (same .to u (s .0, refl)) f in
       absurd (m .none (k .0) (t .column) (k .2) (t .from) (t .to))
 
-  missing-none : Missing n (n + p) R → named n p R ≡ 0
+  pub missing-none : Missing n (n + p) R → named n p R ≡ 0
   unfolding named
   missing-none m = rw (m .is) (zero-div (2 ^ (n + p)))
 

@@ -3,6 +3,7 @@ use mathlib.Core.Bool.{Bool, true, false, _&&_, not}
 use mathlib.Core.List.{List, [], _∷_}
 use Prim.Native.Nat.{ℕ, suc, _+_, _/_, _%_, _^_}
 use lib.Dec.{eqb}
+use Rattle.gf2.specs.Additions.{count}
 use Rattle.images.specs.Packets.{coefficients, payload}
 
 unfoldable pub ifThen : Bool → ℕ → ℕ → ℕ
@@ -19,10 +20,13 @@ unfolding inside ifThen
 pivotRow a e [] = 0
 pivotRow a e (r ∷ R) = ifThen (inside a e r) r (pivotRow a e R)
 
--- a pivot falls in the payload columns
-unfoldable pub contradictory : ℕ → ℕ → List ℕ → Bool
+unfoldable pub hasPivot : ℕ → ℕ → List ℕ → Bool
 unfolding pivotRow
-contradictory n p R = not (eqb (pivotRow n (n + p) R) 0)
+hasPivot a e R = not (eqb (pivotRow a e R) 0)
+
+-- a pivot falls in the payload columns
+abbrev pub contradictory : ℕ → ℕ → List ℕ → Bool
+contradictory n p R = hasPivot n (n + p) R
 
 -- the row whose pivot is j has no other coefficient: block j is known, and its content is that row's payload
 unfoldable pub known : ℕ → List ℕ → ℕ → Bool
@@ -32,6 +36,24 @@ known n R j = eqb (coefficients n (pivotRow j (suc j) R)) (2 ^ j)
 unfoldable pub content : ℕ → List ℕ → ℕ → ℕ
 unfolding pivotRow
 content n R j = payload n (pivotRow j (suc j) R)
+
+-- what stands in place of an unknown block
+abbrev pub unknownBlock : ℕ
+unknownBlock = 0
+
+-- block j as it is shown, and a mark for each block: 1 where it is known
+unfoldable pub shown : ℕ → List ℕ → ℕ → ℕ
+unfolding known content ifThen
+shown n R j = ifThen (known n R j) (content n R j) unknownBlock
+
+unfoldable pub mark : ℕ → List ℕ → ℕ → ℕ
+unfolding known
+mark n R j = count (known n R j)
+
+-- how many of the marks are set
+unfoldable pub marked : List ℕ → ℕ
+marked [] = 0
+marked (x ∷ xs) = x + marked xs
 
 -- the identity adjoined: right of the payload, the row whose pivot is the first one inside the payload names its packets. Zero where there is none
 unfoldable pub named : ℕ → ℕ → List ℕ → ℕ

@@ -1,13 +1,13 @@
 -- The two calls by cases on their checks.
 use mathlib.Core.Path.{_≡_, refl, sym, ap, ap₂, _∙_, subst}
 use mathlib.Core.Bool.{Bool, true, false}
-use mathlib.Core.List.{List, [], _++_}
+use mathlib.Core.List.{List, []}
 use Prim.Native.Nat.{ℕ, _+_, _-_, _*_, _^_, _≤_}
 use native.Mathlib.Nat.{zero-add}
 use native.Mathlib.Omega.{arith}
-use lib.ListN.{length, take, drop, replicate}
+use lib.ListN.{length, take, drop}
 use Rattle.gf2.specs.Rows.{part}
-use Rattle.gf2.specs.Reduced.{pivots, rank}
+use Rattle.gf2.specs.Reduced.{rank}
 use Rattle.words.specs.Words.{wordsOf, rowsOf}
 use Rattle.words.proofs.Rows.{row-ends}
 use Rattle.refusals.specs.declared.Refusal.{Refusal}
@@ -15,9 +15,9 @@ use Rattle.refusals.specs.declared.Outcome.{Outcome}
 use Rattle.refusals.specs.declared.Outcome.the-variants.{Done, Refused}
 use Rattle.refusals.specs.Checks.{viewChecks, reductionChecks, ReductionPasses}
 use Rattle.refusals.proofs.Passed.{reduction-passed, view-passed}
-use Rattle.engine.specs.Core.{Fits, twoSlices}
+use Rattle.engine.specs.Core.{Fits, pivotRecord, twoSlices}
 use Rattle.matrix.specs.declared.Answer.{Answer}
-use Rattle.matrix.specs.Calls.{shown, rowView, answerOf, refusedAnswer, pivotRecord, byOutcome, reduction}
+use Rattle.matrix.specs.Calls.{shown, rowView, answerOf, refusedAnswer, byOutcome, reduction}
 
 -- ---- the row view
 
@@ -61,7 +61,7 @@ module _ (rows columns k : ℕ) (m room : List ℕ) where
   reduce-done o true ranked added list m′ room′ list′ r e f l l′ t a =
       let N : List ℕ = rowsOf (wordsOf columns) rows m′ in
       let d = t .1 in
-      let record-is : list′ ≡ pivotRecord N = d .pivots-are ∙ ap (λ (x : ℕ). pivots N ++ replicate (x - rank N) 65535) l′ in
+      let record-is : list′ ≡ pivotRecord 512 N = d .pivots-are ∙ ap (λ (x : ℕ). pivotRecord x N) l′ in
       subst (λ (q : Outcome). byOutcome q rows columns k m room r m′ room′) (sym f ∙ e) (record {
         reduced = d .form;
         answered = a ∙ ap (λ (x : ℕ). answerOf Done x 0 added list′) (d .rank-is) ∙ ap₂ (λ (x : ℕ) (y : List ℕ). answerOf Done (rank N) 0 x y) (d .additions-are) record-is;

@@ -12,9 +12,10 @@ use Rattle.refusals.specs.declared.Outcome.{Outcome}
 use Rattle.refusals.specs.declared.Outcome.the-variants.{Done, Refused}
 use Rattle.refusals.specs.Checks.{reductionChecks}
 use Rattle.refusals.proofs.Passed.{reduction-passed}
+use Rattle.engine.specs.Core.{pivotRecord}
 use Rattle.engine.proofs.Once.{Slice}
 use Rattle.matrix.specs.declared.Answer.{Answer}
-use Rattle.matrix.specs.Calls.{pivotRecord, reducedAnswer, Reduction, byOutcome, reduction}
+use Rattle.matrix.specs.Calls.{reducedAnswer, Reduction, byOutcome, reduction}
 
 module _ (rows columns : ℕ) (m m′ m₂ : List ℕ) (s : Slice m m′) (s₂ : Slice m m₂) where
   -- the same rows in a buffer of the same size are the same words
@@ -46,5 +47,5 @@ module _ (rows columns : ℕ) (m m′ m₂ : List ℕ) (s : Slice m m′) (s₂ 
         ap (λ (x : Answer). x .outcome) f ∙ sym (ap (λ (x : Answer). x .outcome) g),
         ap (λ (x : Answer). x .rank) f ∙ ap rank n ∙ sym (ap (λ (x : Answer). x .rank) g),
         ap (λ (x : Answer). x .known) f ∙ sym (ap (λ (x : Answer). x .known) g),
-        ap (λ (x : Answer). x .pivots) f ∙ ap pivotRecord n ∙ sym (ap (λ (x : Answer). x .pivots) g),
+        ap (λ (x : Answer). x .pivots) f ∙ ap (pivotRecord 512) n ∙ sym (ap (λ (x : Answer). x .pivots) g),
       )

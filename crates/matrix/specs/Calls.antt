@@ -1,17 +1,17 @@
 -- What the row view and the reduction promise.
 use mathlib.Core.Path.{_≡_}
-use mathlib.Core.List.{List, [], _++_}
+use mathlib.Core.List.{List, []}
 use Prim.Native.Nat.{ℕ, _-_, _*_, _^_}
 use lib.ListN.{length, replicate}
 use Rattle.gf2.specs.Rows.{part}
-use Rattle.gf2.specs.Reduced.{ReducedForm, pivots, rank}
+use Rattle.gf2.specs.Reduced.{ReducedForm, rank}
 use Rattle.gf2.specs.Additions.{additions}
 use Rattle.words.specs.Words.{wordsOf, rowsOf}
 use Rattle.refusals.specs.declared.Refusal.{Refusal}
 use Rattle.refusals.specs.declared.Outcome.{Outcome}
 use Rattle.refusals.specs.declared.Outcome.the-variants.{Done, Refused}
 use Rattle.refusals.specs.Checks.{viewChecks, reductionChecks}
-use Rattle.engine.specs.Core.{zeroed}
+use Rattle.engine.specs.Core.{zeroed, pivotRecord}
 use Rattle.matrix.specs.declared.Answer.{Answer}
 
 -- ---- the row view: row i's words, or the empty part
@@ -25,10 +25,6 @@ rowView rows columns i m = shown (viewChecks rows columns (length m) i) i (words
 
 -- ---- the answer of reduction and of solving
 
--- the record of the pivots of N: its pivots, and 65,535 behind them
-abbrev pub pivotRecord : List ℕ → List ℕ
-pivotRecord N = pivots N ++ replicate (512 - rank N) 65535
-
 abbrev pub answerOf : Outcome → ℕ → ℕ → ℕ → List ℕ → Answer
 answerOf o ranked known added list = record { outcome = o; rank = ranked; known = known; additions = added; pivots = list }
 
@@ -38,7 +34,7 @@ refusedAnswer r = answerOf (Refused r) 0 0 0 (replicate 512 65535)
 
 -- rank, table additions and pivots are those of the reduced matrix
 abbrev pub reducedAnswer : ℕ → ℕ → List ℕ → Answer
-reducedAnswer k columns N = answerOf Done (rank N) 0 (additions k columns N) (pivotRecord N)
+reducedAnswer k columns N = answerOf Done (rank N) 0 (additions k columns N) (pivotRecord 512 N)
 
 -- ---- the reduction: refused with nothing changed; or the matrix has become its reduced form, and the needed words of the work room are zero
 

@@ -1,30 +1,20 @@
 -- The Gray code of t differs from that of t - 1 in one digit, as far from the right as t has trailing zeros; and every number below 2 ^ r is the
 -- code of one below 2 ^ r. So 2 ^ r - 1 additions, of one row each, make all sums of r rows.
 use mathlib.Core.Path.{_≡_, sym, ap, ap₂, _∙_}
-use mathlib.Core.Logic.{_≢_, _⊎_, inl, inr}
+use mathlib.Core.Logic.{_≢_}
 use Prim.Native.Nat.{ℕ, zero, suc, _+_, _-_, _*_, _/_, _%_, _^_, _≤_, _<_}
 use native.Mathlib.Omega.{arith}
 use lib.Arith.{half-le}
 use lib.Bits.{differ, xor-comm, xor-lt, xor-self, xor-shifted}
-use lib.Count.{trailingZeros, under}
+use lib.Count.{trailingZeros}
 use lib.Pow.{pow-pos}
 use Rattle.gf2.specs.Rows.{_⊕_}
 use Rattle.gf2.specs.Reduced.{Pivot}
-use Rattle.gf2.proofs.Bits.{digit-cases, half-lt, bit-low, bit-suc, xor-last, xor-half, xor-back, xor-four}
-use Rattle.gf2.proofs.Pivot.{pivot-suc, pivot-not-zero}
+use Rattle.gf2.proofs.Bits.{bit-low, bit-suc, xor-last, xor-half, xor-back, xor-four}
+use Rattle.gf2.proofs.Pivot.{pivot-not-zero, trailing-pivot}
 use Rattle.method.specs.Gray.{gray}
 
 -- ---- trailing zeros
-
--- read as a row, a number has its pivot where its trailing zeros end
-pub trailing-pivot : (k n : ℕ) → n < 2 ^ k → n ≢ 0 → Pivot (trailingZeros k n) n
-unfolding trailingZeros
-trailing-pivot zero n h z = absurd (omega arith)
-trailing-pivot (suc k) n h z = go (digit-cases (n % 2) (half-lt n)) (trailing-pivot k (n / 2) (omega arith))
-  where
-    go : (n % 2 ≡ 0) ⊎ (n % 2 ≡ 1) → (n / 2 ≢ 0 → Pivot (trailingZeros k (n / 2)) (n / 2)) → Pivot (under (n % 2) (trailingZeros k (n / 2))) n
-    go (inl e) ih = rw e (pivot-suc (trailingZeros k (n / 2)) n e (ih (omega arith)))
-    go (inr e) ih = rw e (record { one = bit-low n ∙ e; before = λ c l. absurd (omega arith) })
 
 pivot-half : (z t : ℕ) → Pivot (suc z) t → (t % 2 ≡ 0) × Pivot z (t / 2)
 pivot-half z t f = (sym (bit-low t) ∙ f .before 0 (omega arith), record { one = sym (bit-suc z t) ∙ f .one; before = λ c l. sym (bit-suc c t) ∙ f .before (suc c) (omega arith) })

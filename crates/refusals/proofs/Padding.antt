@@ -1,13 +1,13 @@
 -- The padding check: rows are narrow one by one, and by their last words.
-use mathlib.Core.Path.{_≡_, refl, sym, subst}
-use mathlib.Core.Logic.{_≢_}
+use mathlib.Core.Path.{_≡_, refl, sym, ap₂, subst}
+use mathlib.Core.Logic.{_≢_, _↔_}
 use mathlib.Core.Bool.{Bool, true, false, _&&_}
 use mathlib.Core.List.{List, [], _∷_}
 use Prim.Native.Nat.{ℕ, zero, suc, _*_, _/_, _^_, _≤_, _<_}
 use native.Mathlib.Decide.{decLt}
 use native.Mathlib.Nat.{div-lt-iff-lt-mul}
 use native.Mathlib.Omega.{arith}
-use borrow.Author.Tests.{lt-ltb, le-ltb, le-leb, lt-leb, ltb-true}
+use borrow.Author.Tests.{lt-ltb, le-ltb, le-leb, lt-leb, leb-true, ltb-true}
 use lib.Dec.{T, ltb, leb}
 use lib.ListN.{length}
 use lib.Pow.{pow-pos}
@@ -73,3 +73,14 @@ holds-fits rows w len h l = go (decLt len (rows * w))
 
 pub holds-narrow : (rows columns : ℕ) (m : List ℕ) → rows * wordsOf columns ≤ length m → narrow columns (rowsOf (wordsOf columns) rows m) ≡ holdsRows rows columns m
 holds-narrow rows columns m l = rw (le-leb (rows * wordsOf columns) (length m) l)
+
+-- what `holds` says
+pub holds-exactly : (rows columns : ℕ) (m : List ℕ) → (holdsRows rows columns m ≡ true) ↔ ((rows * wordsOf columns ≤ length m) × ((i : ℕ) → row (rowsOf (wordsOf columns) rows m) i < 2 ^ columns))
+holds-exactly rows columns m = (go (leb (rows * wordsOf columns) (length m)) refl, λ t. ap₂ _&&_ (le-leb (rows * wordsOf columns) (length m) (t .0)) (sym (narrow-all columns L (λ i l. t .1 i))))
+  where
+    L : List ℕ
+    L = rowsOf (wordsOf columns) rows m
+
+    go : (b : Bool) → leb (rows * wordsOf columns) (length m) ≡ b → b && narrow columns L ≡ true → (rows * wordsOf columns ≤ length m) × ((i : ℕ) → row L i < 2 ^ columns)
+    go true t e = (leb-true (rows * wordsOf columns) (length m) t, narrow-row columns L e)
+    go false t e = absurd (subst T (sym e) tt)

@@ -123,10 +123,10 @@ done-blocks : (n columns : ℕ) → 0 < n → n < columns → badBlocks n column
 done-blocks n columns h l = done-then (done-if _ (ne-eqb n 0 (λ e. omega arith))) (done-if _ (lt-leb columns n l))
 
 -- two numbers that must be equal
-same-done : (r : Refusal) (a b : ℕ) → refuseIf (not (eqb a b)) r ≡ Done → a ≡ b
+pub same-done : (r : Refusal) (a b : ℕ) → refuseIf (not (eqb a b)) r ≡ Done → a ≡ b
 same-done r a b e = eqb-true a b (not-false (eqb a b) (if-done (not (eqb a b)) r e))
 
-done-same : (r : Refusal) (a b : ℕ) → a ≡ b → refuseIf (not (eqb a b)) r ≡ Done
+pub done-same : (r : Refusal) (a b : ℕ) → a ≡ b → refuseIf (not (eqb a b)) r ≡ Done
 done-same r a b h = done-if r (ap not (eq-eqb a b h))
 
 room-done : (more k columns room : ℕ) → shortRoom more k columns room ≡ Done → (more + 2 ^ k) * wordsOf columns ≤ room

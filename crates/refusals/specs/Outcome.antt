@@ -41,6 +41,11 @@ abbrev pub refuseIf : Bool → Refusal → Outcome
 refuseIf true r = Refused r
 refuseIf false r = Done
 
+-- a test's answer
+abbrev pub Decides : Bool → Type 0 → Type 0
+Decides true A = A
+Decides false A = A → ⊥
+
 infixl 30 _andThen_
 -- checks in order: the first that refuses
 abbrev pub _andThen_ : Outcome → Outcome → Outcome

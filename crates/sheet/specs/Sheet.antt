@@ -9,7 +9,7 @@ use Rattle.gf2.specs.Reduced.{pivots}
 use Rattle.gf2.specs.Rref.{rref}
 use Rattle.gf2.specs.Additions.{totalTo, tableAdditions, additions}
 use Rattle.gf2.specs.Inverse.{tabulate, adjoin, rightOf, same, beginsWithIdentity}
-use Rattle.images.specs.ReadOff.{ifThen, contradictory, known, content, named}
+use Rattle.images.specs.ReadOff.{ifThen, hasPivot, contradictory, known, content, named}
 
 -- ---- rows as they are written: column 0 first, a bar before the payload
 
@@ -60,7 +60,7 @@ solved false bs = met bs
 
 -- what the definitions of gf2 and images answer
 unfoldable pub answer : Question → Answer
-unfolding rref pivots totalTo tableAdditions tabulate same adjoin contradictory known content named block inverted solved
+unfolding rref pivots totalTo tableAdditions tabulate same adjoin hasPivot known content named block inverted solved
 answer (reduction columns L ks) = let R = rref L in reduced R (pivots R) (map (λ k. additions k columns R) ks)
 answer (inversion n A) = let R = rref (adjoin n A) in inverted (beginsWithIdentity n R) (rightOf n R)
 answer (solving n p L js) = let R = rref L in solved (contradictory n p R) (map (λ j. block (known n R j) (content n R j)) js)

@@ -3,3 +3,4 @@ pub mod Parts
 pub mod Value
 pub mod Rows
 pub mod Window
+pub mod First

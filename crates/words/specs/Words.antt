@@ -36,3 +36,8 @@ Apart a b w = (a + w ≤ b) ⊎ (b + w ≤ a)
 -- the k columns of a row from column c on, as one number
 abbrev pub windowBits : ℕ → ℕ → ℕ → ℕ
 windowBits c k v = v / 2 ^ c % 2 ^ k
+
+-- the w lowest words of a number
+abbrev pub firstWords : ℕ → ℕ → List ℕ
+firstWords zero v = []
+firstWords (suc w) v = v % 2 ^ 64 ∷ firstWords w (v / 2 ^ 64)

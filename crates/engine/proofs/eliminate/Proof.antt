@@ -5,7 +5,8 @@ use mathlib.Core.Bool.{Bool}
 use Prim.Native.Nat.{ℕ, _*_}
 use borrow.Author.Tests.{not-true, not-false}
 use lib.ListN.{length}
-use Rattle.engine.specs.Core.{Fits, Decides}
+use Rattle.refusals.specs.Outcome.{Decides}
+use Rattle.engine.specs.Core.{Fits}
 use Rattle.engine.proofs.Fitting.{whole, table-fits, rows-fit, two-done}
 use native.Mathlib.Omega.{arith}
 use borrow.Author.Needs.{needs}

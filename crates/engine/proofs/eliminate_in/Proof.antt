@@ -6,7 +6,8 @@ use Prim.Native.Nat.{ℕ, _*_, _^_}
 use native.Mathlib.Nat.{add-mul}
 use borrow.Author.Tests.{not-true, not-false}
 use lib.ListN.{length}
-use Rattle.engine.specs.Core.{Fits, Decides}
+use Rattle.refusals.specs.Outcome.{Decides}
+use Rattle.engine.specs.Core.{Fits}
 use Rattle.engine.proofs.Fitting.{whole, room-fits, one-done}
 use native.Mathlib.Omega.{arith}
 use borrow.Author.Needs.{needs}

@@ -1,0 +1,57 @@
+-- What a caller knows of the room: after the call, and when the matrix in it has been cleared too.
+use mathlib.Core.Path.{_≡_, sym, ap, ap₂, _∙_, subst}
+use mathlib.Core.Bool.{Bool, true, false}
+use mathlib.Core.List.{List, _∷_, _++_, append-assoc}
+use Prim.Native.Nat.{ℕ, zero, suc, _+_, _*_, _^_, _≤_, _<_, min}
+use native.Mathlib.Nat.{zero-add, suc-add, add-mul, min-eq-left}
+use native.Mathlib.Omega.{arith}
+use lib.ListN.{length, drop, replicate, length-replicate}
+use lib.Seq.{take-all}
+use Rattle.gf2.specs.Rows.{row}
+use Rattle.gf2.specs.Reduced.{ReducedForm}
+use Rattle.gf2.specs.Inverse.{adjoin}
+use Rattle.gf2.proofs.Adjoin.{adjoin-narrow}
+use Rattle.gf2.proofs.Space.{same-narrow}
+use Rattle.words.specs.Words.{wordsOf, rowsOf}
+use Rattle.words.proofs.Rows.{length-rows}
+use Rattle.engine.specs.Core.{zeroed}
+use Rattle.beside.specs.Beside.{Fits, besideReduced}
+
+-- ---- where the shapes fit
+
+module _ (rows columns k : ℕ) (m room room₁ : List ℕ) (fits : Fits rows columns k m (length room)) where
+  pub room-reduced : (done : Bool) → besideReduced done rows columns k m room room₁
+      → ReducedForm (adjoin columns (rowsOf (wordsOf columns) rows m)) (rowsOf (wordsOf (columns + rows)) rows room₁)
+      × (drop (rows * wordsOf (columns + rows)) room₁ ≡ replicate (2 ^ k * wordsOf (columns + rows)) 0 ++ drop ((rows + 2 ^ k) * wordsOf (columns + rows)) room)
+  room-reduced true b = (b .1, b .2)
+  room-reduced false b = absurd (b .0 fits)
+
+  pub room-narrow : ReducedForm (adjoin columns (rowsOf (wordsOf columns) rows m)) (rowsOf (wordsOf (columns + rows)) rows room₁)
+      → (i : ℕ) → row (rowsOf (wordsOf (columns + rows)) rows room₁) i < 2 ^ (columns + rows)
+  room-narrow form =
+      let L : List ℕ = rowsOf (wordsOf columns) rows m in
+      same-narrow (columns + rows) (adjoin columns L) (rowsOf (wordsOf (columns + rows)) rows room₁) (form .space)
+      (subst (λ (x : ℕ). (i : ℕ) → row (adjoin columns L) i < 2 ^ (columns + x)) (length-rows (wordsOf columns) rows m) (adjoin-narrow columns L (fits .clean)))
+
+-- ---- the whole room cleared
+
+-- the matrix's words become zero as well: then all needed words are, and further ones are as they were
+zeroed-sum : (a b : ℕ) (room room₁ : List ℕ) → a + b ≤ length room → length room₁ ≡ length room → drop a room₁ ≡ replicate b 0 ++ drop (a + b) room
+    → zeroed 0 (min a (length room₁)) room₁ ≡ zeroed 0 (a + b) room
+zeroed-sum a b room room₁ h l d =
+    ap (λ (x : ℕ). zeroed 0 x room₁) (min-eq-left {n = a} {m = length room₁} (omega arith))
+    ∙ plain a room₁ ∙ ap (λ (t : List ℕ). replicate a 0 ++ t) d ∙ sym (append-assoc (replicate a 0) (replicate b 0) (drop (a + b) room))
+    ∙ ap (λ (t : List ℕ). t ++ drop (a + b) room) (zeros a b) ∙ sym (plain (a + b) room)
+  where
+    plain : (n : ℕ) (x : List ℕ) → zeroed 0 n x ≡ replicate n 0 ++ drop n x
+    plain n x = ap₂ (λ (y z : List ℕ). y ++ z) (take-all n (replicate n 0) (omega (arith, length-replicate {A = ℕ} n 0))) (ap (λ (i : ℕ). drop i x) (zero-add n))
+
+    zeros : (n o : ℕ) → replicate n 0 ++ replicate o 0 ≡ replicate {A = ℕ} (n + o) 0
+    zeros zero o = ap (λ (i : ℕ). replicate i 0) (sym (zero-add o))
+    zeros (suc n) o = ap (λ (t : List ℕ). 0 ∷ t) (zeros n o) ∙ ap (λ (i : ℕ). replicate i 0) (sym (suc-add n o))
+
+pub room-cleared : (rows k w : ℕ) (room room₁ : List ℕ) → (rows + 2 ^ k) * w ≤ length room → length room₁ ≡ length room
+    → drop (rows * w) room₁ ≡ replicate (2 ^ k * w) 0 ++ drop ((rows + 2 ^ k) * w) room → zeroed 0 (min (rows * w) (length room₁)) room₁ ≡ zeroed 0 ((rows + 2 ^ k) * w) room
+room-cleared rows k w room room₁ h l d =
+    let e : (rows + 2 ^ k) * w ≡ rows * w + 2 ^ k * w = add-mul rows (2 ^ k) w in
+    zeroed-sum (rows * w) (2 ^ k * w) room room₁ (omega arith) l (d ∙ ap (λ (x : ℕ). replicate (2 ^ k * w) 0 ++ drop x room) e) ∙ ap (λ (x : ℕ). zeroed 0 x room) (sym e)

@@ -1,0 +1,64 @@
+-- What solving promises, in terms of images.
+use mathlib.Core.Path.{_≡_}
+use mathlib.Core.Logic.{_⊎_, _↔_}
+use mathlib.Core.List.{List}
+use Prim.Native.Nat.{ℕ, _-_, _*_, _^_, _<_}
+use lib.ListN.{length}
+use Rattle.gf2.specs.Rows.{row}
+use Rattle.gf2.specs.Reduced.{ReducedForm, rank}
+use Rattle.gf2.specs.Additions.{additions}
+use Rattle.words.specs.Words.{wordsOf, rowsOf}
+use Rattle.images.specs.Packets.{Image, MeetsAll, Met, Contradictory, Agreed}
+use Rattle.images.specs.ReadOff.{unknownBlock, marked}
+use Rattle.refusals.specs.declared.Refusal.the-variants as refusal
+use Rattle.refusals.specs.declared.Outcome.{Outcome}
+use Rattle.refusals.specs.declared.Outcome.the-variants.{Done, Refused}
+use Rattle.refusals.specs.Checks.{solvingChecks}
+use Rattle.engine.specs.Core.{zeroed, pivotRecord}
+use Rattle.matrix.specs.declared.Answer.{Answer}
+use Rattle.matrix.specs.Calls.{answerOf, refusedAnswer}
+
+-- Of n blocks of p bits: the packets L can be met; a block is marked 1 exactly if all images that meet them agree on it, else 0; a marked block's content
+-- is that of each such image, and an unmarked block is left blank.
+pub record Solved (n p : ℕ) (L image marks : List ℕ) (known : ℕ) : Type 0 where
+  pub met : Met n p L
+  pub known-marked : (j : ℕ) → j < n → (row marks j ≡ 1) ↔ Agreed n p L j
+  pub unknown-marked : (j : ℕ) → j < n → (row marks j ≡ 0) ↔ (Agreed n p L j → ⊥)
+  pub contents : (j : ℕ) → j < n → row marks j ≡ 1 → (X : List ℕ) → Image n p X → MeetsAll n X L → row image j ≡ row X j
+  pub blanks : (j : ℕ) → j < n → row marks j ≡ 0 → row image j ≡ unknownBlock
+  pub padding-zero : Image n p image
+  pub counted : known ≡ marked marks
+
+-- the answer of packets that can be met: rank, table additions and pivots of the reduced packets N, and the number of known blocks
+abbrev pub solvedAnswer : ℕ → ℕ → List ℕ → ℕ → Answer
+solvedAnswer k columns N known = answerOf Done (rank N) known (additions k columns N) (pivotRecord 512 N)
+
+-- some image meets the packets, and the blocks are told
+pub record Told (columns n k : ℕ) (L N : List ℕ) (r : Answer) (image′ marks′ : List ℕ) : Type 0 where
+  pub solved : Solved n (columns - n) L (rowsOf (wordsOf (columns - n)) n image′) marks′ (r .known)
+  pub answered : r ≡ solvedAnswer k columns N (r .known)
+
+-- no image meets the packets, and image and marks are as they were
+pub record Refuted (columns n : ℕ) (L : List ℕ) (r : Answer) (image marks image′ marks′ : List ℕ) : Type 0 where
+  pub unmet : Contradictory n (columns - n) L
+  pub answered : r ≡ refusedAnswer refusal.Contradictory
+  pub image-kept : image′ ≡ image
+  pub marks-kept : marks′ ≡ marks
+
+-- past the checks: the packets are reduced, and told or refuted; the needed words of the work room are zero
+pub record Solving (rows columns n k : ℕ) (m image marks room : List ℕ) (r : Answer) (m′ image′ marks′ room′ : List ℕ) : Type 0 where
+  pub reduced : ReducedForm (rowsOf (wordsOf columns) rows m) (rowsOf (wordsOf columns) rows m′)
+  pub answered :
+      Told columns n k (rowsOf (wordsOf columns) rows m) (rowsOf (wordsOf columns) rows m′) r image′ marks′
+      ⊎ Refuted columns n (rowsOf (wordsOf columns) rows m) r image marks image′ marks′
+  pub cleared : room′ ≡ zeroed 0 (2 ^ k * wordsOf columns) room
+
+abbrev pub byOutcome : Outcome → ℕ → ℕ → ℕ → ℕ → List ℕ → List ℕ → List ℕ → List ℕ → Answer → List ℕ → List ℕ → List ℕ → List ℕ → Type 0
+byOutcome Done rows columns n k m image marks room r m′ image′ marks′ room′ = Solving rows columns n k m image marks room r m′ image′ marks′ room′
+byOutcome (Refused x) rows columns n k m image marks room r m′ image′ marks′ room′ =
+    (r ≡ refusedAnswer x) × (m′ ≡ m) × (image′ ≡ image) × (marks′ ≡ marks) × (room′ ≡ room)
+
+-- refused with nothing changed; or answered
+abbrev pub solving : ℕ → ℕ → ℕ → ℕ → List ℕ → List ℕ → List ℕ → List ℕ → Answer → List ℕ → List ℕ → List ℕ → List ℕ → Type 0
+solving rows columns n k m image marks room r m′ image′ marks′ room′ =
+    byOutcome (solvingChecks rows columns n k m (length image) (length marks) (length room)) rows columns n k m image marks room r m′ image′ marks′ room′

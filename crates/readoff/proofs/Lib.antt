@@ -1,0 +1,7 @@
+pub mod Columns
+pub mod Lead
+pub mod Saying
+pub mod Place
+pub mod Sides
+pub mod Fitting
+pub mod Telling
