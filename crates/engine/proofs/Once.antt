@@ -1,26 +1,16 @@
 -- The core's promises leave no choice: two outcomes that one of them allows, for the same arguments, are equal. A slice keeps its length, and its words fit 64 bits.
 use mathlib.Core.Path.{_≡_, refl, sym, ap, ap₂, _∙_}
 use mathlib.Core.Bool.{Bool, true, false}
-use mathlib.Core.List.{List, _++_}
-use Prim.Native.Nat.{ℕ, _-_, _*_, _≤_}
+use mathlib.Core.List.{List}
+use Prim.Native.Nat.{ℕ, _-_}
 use native.Mathlib.Omega.{arith}
-use lib.ListN.{length, drop, take-append-drop}
+use lib.ListN.{length}
 use Rattle.gf2.specs.Reduced.{rank}
 use Rattle.gf2.specs.Additions.{additions}
 use Rattle.gf2.proofs.Reduced.{one-reduced-form}
-use Rattle.words.specs.Words.{Fit, wordsOf, rowsOf}
-use Rattle.words.proofs.Rows.{rows-one}
+use Rattle.words.specs.Words.{wordsOf}
+use Rattle.words.proofs.Slices.{Slice, same-words}
 use Rattle.engine.specs.Core.{pivotRecord, Reduction, twoSlices, oneRoom}
-
--- a slice after a call: as long as before, of words that fit
-pub record Slice (m m′ : List ℕ) : Type 0 where
-  pub size : length m′ ≡ length m
-  pub fit : Fit m′
-
--- rows and what lies past them fix the words
-pub same-words : (w n : ℕ) (x y : List ℕ) → Fit x → Fit y → n * w ≤ length x → n * w ≤ length y → rowsOf w n x ≡ rowsOf w n y → drop (n * w) x ≡ drop (n * w) y → x ≡ y
-same-words w n x y fx fy lx ly e d =
-    sym (take-append-drop (n * w) x) ∙ ap₂ (λ (a b : List ℕ). a ++ b) (rows-one w n x y fx fy lx ly e) d ∙ take-append-drop (n * w) y
 
 -- one reduction
 module _ {k columns ranked added ranked₂ added₂ : ℕ} {L N N₂ list list₂ : List ℕ} (f : Reduction k columns L N ranked added list) (g : Reduction k columns L N₂ ranked₂ added₂ list₂)

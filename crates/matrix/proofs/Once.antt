@@ -7,20 +7,18 @@ use lib.ListN.{length}
 use Rattle.gf2.specs.Reduced.{rank}
 use Rattle.gf2.proofs.Reduced.{one-reduced-form}
 use Rattle.words.specs.Words.{wordsOf, rowsOf}
-use Rattle.words.proofs.Rows.{rows-one-all}
 use Rattle.refusals.specs.declared.Outcome.{Outcome}
 use Rattle.refusals.specs.declared.Outcome.the-variants.{Done, Refused}
 use Rattle.refusals.specs.Checks.{reductionChecks}
 use Rattle.refusals.proofs.Passed.{reduction-passed}
 use Rattle.engine.specs.Core.{pivotRecord}
-use Rattle.engine.proofs.Once.{Slice}
+use Rattle.words.proofs.Slices.{Slice, same-slice}
 use Rattle.matrix.specs.declared.Answer.{Answer}
 use Rattle.matrix.specs.Calls.{reducedAnswer, Reduction, byOutcome, reduction}
 
 module _ (rows columns : ℕ) (m m′ m₂ : List ℕ) (s : Slice m m′) (s₂ : Slice m m₂) where
-  -- the same rows in a buffer of the same size are the same words
   same-buffer : length m ≡ rows * wordsOf columns → rowsOf (wordsOf columns) rows m′ ≡ rowsOf (wordsOf columns) rows m₂ → m′ ≡ m₂
-  same-buffer l e = rows-one-all (wordsOf columns) rows m′ m₂ (s .fit) (s₂ .fit) (s .size ∙ l) (s₂ .size ∙ l) e
+  same-buffer = same-slice m m′ m₂ s s₂ (wordsOf columns) rows
 
   pub one-reduction : (k : ℕ) (room room′ room₂ : List ℕ) (r r₂ : Answer) → reduction rows columns k m room r m′ room′ → reduction rows columns k m room r₂ m₂ room₂
       → (r ≡ r₂) × (m′ ≡ m₂) × (room′ ≡ room₂)

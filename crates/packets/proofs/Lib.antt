@@ -1,3 +1,6 @@
 pub mod Images
 pub mod Calls
 pub mod Naming
+pub mod Marks
+pub mod Lists
+pub mod Once

@@ -5,3 +5,4 @@ pub mod Place
 pub mod Sides
 pub mod Fitting
 pub mod Telling
+pub mod Once

@@ -4,3 +4,4 @@ pub mod Value
 pub mod Rows
 pub mod Window
 pub mod First
+pub mod Slices
