@@ -36,6 +36,16 @@ pub fn less(n: usize) -> usize {
     if n == 0 { 0 } else { n - 1 }
 }
 
+// the sum of small numbers; a number past every bound where one is not small
+pub fn sum(a: usize, b: usize) -> usize {
+    if a <= 65536 {
+        if b <= 65536 {
+            return a + b;
+        }
+    }
+    18446744073709551615
+}
+
 pub fn wide(x: usize) -> u64 {
     x as u64
 }

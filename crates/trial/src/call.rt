@@ -3,10 +3,33 @@ use super::buffer;
 use super::plain;
 use matrix::Answer;
 
-struct Wanted {
-    rank: usize,
-    additions: u64,
-    zeros: usize,
+pub struct Wanted {
+    pub rank: usize,
+    pub known: usize,
+    pub additions: u64,
+    pub zeros: usize,
+}
+
+impl Wanted {
+    // what stands beside a refusal
+    pub fn nothing() -> Wanted {
+        Wanted {
+            rank: 0,
+            known: 0,
+            additions: 0,
+            zeros: 0,
+        }
+    }
+
+    // with that many known blocks
+    pub fn with(self, known: usize) -> Wanted {
+        Wanted {
+            rank: self.rank,
+            known: known,
+            additions: self.additions,
+            zeros: self.zeros,
+        }
+    }
 }
 
 fn pivot(x: u16) -> u64 {
@@ -14,7 +37,7 @@ fn pivot(x: u16) -> u64 {
 }
 
 // What the call should answer and leave, with the matrix in m and the pivots in a list of 65,535s: by the plain reduction, or nothing changed beside a refusal.
-fn foresee(
+pub fn foresee(
     m: &mut [u64],
     rows: usize,
     columns: usize,
@@ -23,15 +46,12 @@ fn foresee(
     pivots: &mut [u64],
 ) -> Wanted {
     if number != 0 {
-        return Wanted {
-            rank: 0,
-            additions: 0,
-            zeros: 0,
-        };
+        return Wanted::nothing();
     }
     let rank = plain::reduce(m, rows, columns, pivots);
     Wanted {
         rank: rank,
+        known: 0,
         additions: plain::additions(pivots, rank, buffer::wide(k)),
         zeros: buffer::place(buffer::pow2(k), buffer::width(columns), 0),
     }
@@ -49,12 +69,12 @@ fn same_pivots(p: &[u16; 512], want: &[u64; 512]) -> bool {
 }
 
 // whether the answer is that number with what was foreseen
-fn answered(a: Answer, number: u8, want: Wanted, pivots: &[u64; 512]) -> bool {
+pub fn answered(a: Answer, number: u8, want: Wanted, pivots: &[u64; 512]) -> bool {
     let outcome = a.outcome;
     if outcome.number() != number {
         return false;
     }
-    if a.rank != want.rank || a.known != 0 || buffer::wide(a.additions) != want.additions {
+    if a.rank != want.rank || a.known != want.known || buffer::wide(a.additions) != want.additions {
         return false;
     }
     let p = a.pivots;
@@ -62,7 +82,7 @@ fn answered(a: Answer, number: u8, want: Wanted, pivots: &[u64; 512]) -> bool {
 }
 
 // whether the matrix is as foreseen, and the work room zero in that many words and unchanged past them
-fn left(m: &[u64], copy: &[u64], room: &[u64], zeros: usize) -> bool {
+pub fn left(m: &[u64], copy: &[u64], room: &[u64], zeros: usize) -> bool {
     buffer::same(m, copy) && buffer::zeros_then_ones(room, zeros)
 }
 

@@ -34,7 +34,12 @@ fn sparse(x: u64) -> u64 {
     if v % 4 == 0 { 1 << (v >> 32) % 64 } else { 0 }
 }
 
-fn identity(i: usize, j: usize) -> u64 {
+// a generator's start for try n of the group with that salt; xorshift never leaves 0
+pub fn start(n: usize, salt: u64) -> u64 {
+    word(num::wrapping_add_u64(buffer::wide(n), salt)) | 1
+}
+
+pub fn identity(i: usize, j: usize) -> u64 {
     if i / 64 == j { 1 << i % 64 } else { 0 }
 }
 
@@ -61,6 +66,16 @@ fn late(columns: usize, j: usize, x: u64) -> u64 {
     word(x) & (buffer::ONES ^ buffer::below(c, j))
 }
 
+// ones on the diagonal, and nothing right of it
+fn lower(i: usize, j: usize, x: u64) -> u64 {
+    (word(x) & buffer::below(i, j)) | identity(i, j)
+}
+
+// ones on the diagonal, and nothing left of it
+fn upper(i: usize, j: usize, x: u64) -> u64 {
+    (word(x) & (buffer::ONES ^ buffer::below(i, j))) | identity(i, j)
+}
+
 // word j of row i, where the words before it are made
 fn kind_word(m: &[u64], w: usize, columns: usize, kind: usize, i: usize, j: usize, x: u64) -> u64 {
     match kind {
@@ -71,17 +86,24 @@ fn kind_word(m: &[u64], w: usize, columns: usize, kind: usize, i: usize, j: usiz
         4 => buffer::ONES,
         5 => low_rank(m, w, i, j, x),
         6 => repeated(m, w, i, j, x),
-        _ => late(columns, j, x),
+        7 => late(columns, j, x),
+        8 => lower(i, j, x),
+        _ => upper(i, j, x),
     }
 }
 
-// a matrix of that kind with clean padding
+// a matrix of that kind with clean padding, in all of the buffer
 pub fn fill(m: &mut [u64], columns: usize, kind: usize, seed: u64) {
+    let n = m.len();
+    first(m, n, columns, kind, seed);
+}
+
+// the same in the buffer's first n words
+pub fn first(m: &mut [u64], n: usize, columns: usize, kind: usize, seed: u64) {
     let w = buffer::width(columns);
     if w == 0 {
         return;
     }
-    let n = m.len();
     let mut x = seed;
     let mut p = 0;
     while p < n {

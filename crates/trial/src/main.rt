@@ -1,10 +1,29 @@
-// Tries the reduction and the row view on fixed matrices, and writes how many tries went wrong: none should.
+// Tries the library's calls on fixed matrices, and writes how many tries went wrong: none should.
 mod buffer;
 mod call;
+mod contradictions;
+mod enumerations;
+mod examples;
+mod faults;
 mod fill;
+mod inverses;
+mod inversion;
+mod keep;
+mod lists;
+mod marks;
+mod naming;
+mod pairs;
 mod plain;
+mod product;
 mod reductions;
 mod refused;
+mod refused_inverse;
+mod refused_naming;
+mod refused_solving;
+mod shape;
+mod sizes;
+mod solutions;
+mod solving;
 mod tally;
 mod views;
 
@@ -18,15 +37,24 @@ fn say(name: &[u8], t: Tally) {
     io::write_all(1, b"\n");
 }
 
-// the buffers hold 513 rows of 17 words and one word more; the room, tables of 256 rows of 16 words and 128 words more
 fn main() {
-    let mut m = [0u64; 8722];
-    let mut copy = [0u64; 8722];
-    let mut room = [0u64; 4224];
+    let mut m = [0u64; shape::MATRIX];
+    let mut copy = [0u64; shape::MATRIX];
+    let mut room = [0u64; shape::ROOM];
     say(
         b"reductions ",
         reductions::all(&mut m, &mut copy, &mut room),
     );
     say(b"refusals ", refused::all(&mut m, &mut copy, &mut room));
     say(b"views ", views::all(&mut m));
+    say(b"inverses ", inverses::all());
+    say(b"inverse refusals ", refused_inverse::all());
+    say(b"solutions ", solutions::all());
+    say(b"solving refusals ", refused_solving::all());
+    say(b"repeats ", pairs::all(false));
+    say(b"growths ", pairs::all(true));
+    say(b"contradictions ", contradictions::all());
+    say(b"contradiction refusals ", refused_naming::all());
+    say(b"enumerations ", enumerations::all());
+    say(b"examples ", examples::all());
 }

@@ -2,9 +2,23 @@
 use super::buffer;
 use std::num;
 
-fn bit(m: &[u64], w: usize, i: usize, c: usize) -> bool {
+pub fn bit(m: &[u64], w: usize, i: usize, c: usize) -> bool {
     let v = buffer::get(m, buffer::place(i, w, c / 64));
     (v >> (c % 64)) % 2 == 1
+}
+
+// the 64 columns of row i from column c on, column by column, as far as they stand before the end
+pub fn cut(m: &[u64], w: usize, i: usize, c: usize, end: usize) -> u64 {
+    let mut v = 0;
+    let mut b = 0;
+    while b < 64 {
+        let q = buffer::sum(c, b);
+        if q < end && bit(m, w, i, q) {
+            v = v | (1 << b);
+        }
+        b += 1;
+    }
+    v
 }
 
 // the first row from that on with a one in column c, or rows
@@ -19,7 +33,7 @@ fn find(m: &[u64], w: usize, rows: usize, from: usize, c: usize) -> usize {
     rows
 }
 
-fn swap(m: &mut [u64], w: usize, a: usize, b: usize) {
+pub fn swap(m: &mut [u64], w: usize, a: usize, b: usize) {
     let mut j = 0;
     while j < w {
         let p = buffer::place(a, w, j);
@@ -32,7 +46,7 @@ fn swap(m: &mut [u64], w: usize, a: usize, b: usize) {
     }
 }
 
-fn add(m: &mut [u64], w: usize, from: usize, to: usize) {
+pub fn add(m: &mut [u64], w: usize, from: usize, to: usize) {
     let mut j = 0;
     while j < w {
         let x = buffer::get(m, buffer::place(from, w, j));

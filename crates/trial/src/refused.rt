@@ -2,6 +2,7 @@
 use super::buffer;
 use super::call;
 use super::fill;
+use super::shape;
 use super::tally::Tally;
 
 pub fn rows_of(n: usize) -> usize {
@@ -55,22 +56,8 @@ pub fn length_of(n: usize, asked: usize) -> usize {
     }
 }
 
-// the words of a matrix, with rows and columns cut down to what the buffers hold
-pub fn asked(rows: usize, columns: usize) -> usize {
-    buffer::place(
-        buffer::least(rows, 513),
-        buffer::least(buffer::width(columns), 17),
-        0,
-    )
-}
-
-fn asked_room(k: usize, columns: usize) -> usize {
-    let w = buffer::least(buffer::width(columns), 16);
-    buffer::place(buffer::pow2(buffer::least(k, 8)), w, 0)
-}
-
 // sets the first or the last padding bit of the first, the middle or the last row; whether it did
-fn soil(m: &mut [u64], rows: usize, columns: usize, n: usize) -> bool {
+pub fn soil(m: &mut [u64], rows: usize, columns: usize, n: usize) -> bool {
     if n == 0 || rows == 0 || columns % 64 == 0 {
         return false;
     }
@@ -112,8 +99,8 @@ fn case(m: &mut [u64], copy: &mut [u64], room: &mut [u64], n: usize, x: u64) -> 
     let rows = rows_of(n % 8);
     let columns = columns_of(n / 8 % 10);
     let k = k_of(n / 80 % 8);
-    let len = length_of(n / 640 % 4, asked(rows, columns));
-    let lent = length_of(n / 2560 % 3, asked_room(k, columns));
+    let len = length_of(n / 640 % 4, shape::matrix(rows, columns));
+    let lent = length_of(n / 2560 % 3, shape::table(0, k, columns));
     if m.len() < len {
         return false;
     }

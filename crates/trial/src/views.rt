@@ -2,6 +2,7 @@
 use super::buffer;
 use super::fill;
 use super::refused;
+use super::shape;
 use super::tally::Tally;
 
 fn index_of(n: usize, rows: usize) -> usize {
@@ -61,7 +62,7 @@ fn right(m: &[u64], rows: usize, columns: usize, i: usize) -> bool {
 fn case(m: &mut [u64], n: usize, x: u64) -> bool {
     let rows = refused::rows_of(n % 8);
     let columns = refused::columns_of(n / 8 % 10);
-    let len = refused::length_of(n / 80 % 4, refused::asked(rows, columns));
+    let len = refused::length_of(n / 80 % 4, shape::matrix(rows, columns));
     let i = index_of(n / 320 % 6, rows);
     if m.len() < len {
         return false;

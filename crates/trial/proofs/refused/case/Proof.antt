@@ -14,14 +14,14 @@ columns-of-requires c κs = search needs
 k-of-requires : tie.Need-k-of-requires
 k-of-requires c κs = search needs
 
-asked-requires : tie.Need-asked-requires
-asked-requires c κs = search needs
+matrix-requires : tie.Need-matrix-requires
+matrix-requires c κs = search needs
 
 length-of-requires : tie.Need-length-of-requires
 length-of-requires c κs = search needs
 
-asked-room-requires : tie.Need-asked-room-requires
-asked-room-requires c κs = search needs
+table-requires : tie.Need-table-requires
+table-requires c κs = search needs
 
 length-of-requires-2 : tie.Need-length-of-requires-2
 length-of-requires-2 c κs = search needs
@@ -75,9 +75,9 @@ case-spec =
     rows-of-requires
     columns-of-requires
     k-of-requires
-    asked-requires
+    matrix-requires
     length-of-requires
-    asked-room-requires
+    table-requires
     length-of-requires-2
     returns
     returns-2

@@ -11,8 +11,8 @@ rows-of-requires c κs = search needs
 columns-of-requires : tie.Need-columns-of-requires
 columns-of-requires c κs = search needs
 
-asked-requires : tie.Need-asked-requires
-asked-requires c κs = search needs
+matrix-requires : tie.Need-matrix-requires
+matrix-requires c κs = search needs
 
 length-of-requires : tie.Need-length-of-requires
 length-of-requires c κs = search needs
@@ -47,7 +47,7 @@ case-spec =
     (tie.spec
     rows-of-requires
     columns-of-requires
-    asked-requires
+    matrix-requires
     length-of-requires
     index-of-requires
     returns

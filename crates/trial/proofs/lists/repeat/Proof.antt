@@ -3,17 +3,14 @@ use Prim.Native.Nat.{_-_}
 use mathlib.Core.Path.{_≡_}
 use lib.ListN.{length}
 use borrow.Author.Needs.{needs}
-use Rattle.trial.proofs.fill.fill.Statement.{statement}
-use Rattle.trial.proofs.fill.fill.Tie as tie
+use Rattle.trial.proofs.lists.repeat.Statement.{statement}
+use Rattle.trial.proofs.lists.repeat.Tie as tie
 
 abbrev Inv-loop : tie.InvT-loop
-Inv-loop m₀ columns kind seed w n x₀ p₀ m x p = length m ≡ length m₀
+Inv-loop m len out₀ all p₀ out p = length out ≡ length out₀
 
 abbrev μ-loop : tie.MeasureT-loop
-μ-loop m₀ columns kind seed w n x₀ p₀ m x p = n - p
-
-width-requires : tie.Need-width-requires Inv-loop μ-loop
-width-requires c κs = search needs
+μ-loop m len out₀ all p₀ out p = all - p
 
 returns : tie.Need-returns Inv-loop μ-loop
 returns c = search needs
@@ -21,20 +18,11 @@ returns c = search needs
 loop-holds : tie.Need-loop-holds Inv-loop μ-loop
 loop-holds c = search needs
 
-next-requires : tie.Need-next-requires Inv-loop μ-loop
-next-requires c κs = search needs
+rem-get : tie.Need-rem-get Inv-loop μ-loop
+rem-get c = search needs
 
-div-i : tie.Need-div-i Inv-loop μ-loop
-div-i c = search needs
-
-rem-j : tie.Need-rem-j Inv-loop μ-loop
-rem-j c = search needs
-
-kind-word-requires : tie.Need-kind-word-requires Inv-loop μ-loop
-kind-word-requires c κs = search needs
-
-below-requires : tie.Need-below-requires Inv-loop μ-loop
-below-requires c κs = search needs
+get-requires : tie.Need-get-requires Inv-loop μ-loop
+get-requires c κs = search needs
 
 put-requires : tie.Need-put-requires Inv-loop μ-loop
 put-requires c κs = search needs
@@ -54,20 +42,16 @@ same-length c = search needs
 returns-2 : tie.Need-returns-2 Inv-loop μ-loop
 returns-2 c = search needs
 
-pub fill-spec : {M : Type 1} → statement M
-fill-spec =
+pub repeat-spec : {M : Type 1} → statement M
+repeat-spec =
     tie.close
     (tie.spec
     Inv-loop
     μ-loop
-    width-requires
     returns
     loop-holds
-    next-requires
-    div-i
-    rem-j
-    kind-word-requires
-    below-requires
+    rem-get
+    get-requires
     put-requires
     add-p
     loop-less

@@ -1,0 +1,37 @@
+-- Nothing has to hold from turn to turn.
+use Prim.Native.Nat.{_-_}
+use borrow.Author.Needs.{needs}
+use Rattle.trial.proofs.solving.alone.Statement.{statement}
+use Rattle.trial.proofs.solving.alone.Tie as tie
+
+abbrev Inv-loop : tie.InvT-loop
+Inv-loop m w i n j c₀ c = Unit {0}
+
+abbrev μ-loop : tie.MeasureT-loop
+μ-loop m w i n j c₀ c = n - c
+
+loop-holds : tie.Need-loop-holds Inv-loop μ-loop
+loop-holds c = search needs
+
+bit-requires : tie.Need-bit-requires Inv-loop μ-loop
+bit-requires c κs = search needs
+
+returns : tie.Need-returns Inv-loop μ-loop
+returns c = search needs
+
+add-c : tie.Need-add-c Inv-loop μ-loop
+add-c c = search needs
+
+loop-less : tie.Need-loop-less Inv-loop μ-loop
+loop-less c = search needs
+
+loop-again : tie.Need-loop-again Inv-loop μ-loop
+loop-again c = search needs
+
+returns-2 : tie.Need-returns-2 Inv-loop μ-loop
+returns-2 c = search needs
+
+pub alone-spec : {M : Type 1} → statement M
+alone-spec =
+    tie.close
+    (tie.spec Inv-loop μ-loop loop-holds bit-requires returns add-c loop-less loop-again returns-2)
