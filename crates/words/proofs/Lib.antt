@@ -4,4 +4,5 @@ pub mod Value
 pub mod Rows
 pub mod Window
 pub mod First
+pub mod Flat
 pub mod Slices

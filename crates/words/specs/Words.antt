@@ -1,5 +1,5 @@
 -- Words of 64 bits, and the rows that a buffer of words holds. Everything is said for any number of words a row.
-use mathlib.Core.List.{List, [], _∷_}
+use mathlib.Core.List.{List, [], _∷_, _++_}
 use mathlib.Core.Logic.{_⊎_}
 use Prim.Native.Nat.{ℕ, zero, suc, _+_, _*_, _/_, _%_, _^_, _≤_, _<_}
 use lib.Bits.{bitXor}
@@ -41,3 +41,8 @@ windowBits c k v = v / 2 ^ c % 2 ^ k
 abbrev pub firstWords : ℕ → ℕ → List ℕ
 firstWords zero v = []
 firstWords (suc w) v = v % 2 ^ 64 ∷ firstWords w (v / 2 ^ 64)
+
+-- the words of rows, row after row without gaps
+unfoldable pub flat : ℕ → List ℕ → List ℕ
+flat w [] = []
+flat w (v ∷ M) = firstWords w v ++ flat w M

@@ -1,0 +1,150 @@
+-- Only a row's last word can hold padding: the loop has seen that of each row passed. The measure is the rows left.
+use mathlib.Core.Path.{sym, _∙_}
+use denote.Ref.{now}
+use Prim.Native.Nat.{ℕ, _-_, _^_, _<_, _≤_}
+use native.Mathlib.Nat.{lt-of-lt-of-le}
+use borrow.Author.Count.{below-more, below-none}
+use lib.ListN.{length}
+use Rattle.gf2.specs.Rows.{row}
+use Rattle.bundle.specs.Bundle.{matrixAt}
+use Rattle.bundle.proofs.Bodies.{last-inside, last-word, last-full, all-clean, not-clean}
+use borrow.Author.Needs.{needs}
+use native.Mathlib.Omega.{arith}
+use Rattle.bundle.proofs.body.is_clean.Statement.{statement}
+use Rattle.bundle.proofs.body.is_clean.Tie as tie
+
+abbrev Inv-loop : tie.InvT-loop
+Inv-loop b kind at rows columns s w i₀ i = ((k : ℕ) → k < i → row (matrixAt kind at rows columns b) k < 2 ^ columns) × (i ≤ rows)
+
+abbrev μ-loop : tie.MeasureT-loop
+μ-loop b kind at rows columns s w i₀ i = rows - i
+
+odd-bits-requires : tie.Need-odd-bits-requires Inv-loop μ-loop
+odd-bits-requires c κs = search needs
+
+returns : tie.Need-returns Inv-loop μ-loop
+returns c =
+    let s = c .before .before .before in
+    let g = s .args in
+    all-clean (g .kind) (g .at) (g .rows) (g .columns) (now (g .b))
+    (last-full (g .kind) (g .at) (g .rows) (g .columns) (now (g .b)) (λ j. c .before .before .shared-slice-known .given j .fits) (sym (c .before .odd-bits .ensures) ∙ c .if1 .taken))
+
+words-requires : tie.Need-words-requires Inv-loop μ-loop
+words-requires c κs = search needs
+
+loop-holds : tie.Need-loop-holds Inv-loop μ-loop
+loop-holds c = (below-none _, search needs)
+
+mul-word : tie.Need-mul-word Inv-loop μ-loop
+mul-word c =
+    let l = c .before in
+    let w = l .before .words in
+    let s = l .before .before .before .before .before in
+    let g = s .args in
+    omega (arith, last-inside (l .loop .i) (g .rows) (g .columns) (w .result) (g .at) (length (now (g .b))) (c .loop-test .taken) (w .ensures) (s .pre .1) (s .pre .3), s .pre .1, w .ensures)
+
+sub-word : tie.Need-sub-word Inv-loop μ-loop
+sub-word c =
+    let l = c .before in
+    let w = l .before .words in
+    let s = l .before .before .before .before .before in
+    omega (arith, s .pre .1, w .ensures)
+
+add-word : tie.Need-add-word Inv-loop μ-loop
+add-word c =
+    let l = c .before in
+    let w = l .before .words in
+    let s = l .before .before .before .before .before in
+    let g = s .args in
+    omega (arith, last-inside (l .loop .i) (g .rows) (g .columns) (w .result) (g .at) (length (now (g .b))) (c .loop-test .taken) (w .ensures) (s .pre .1) (s .pre .3), s .pre .1, w .ensures)
+
+mul-word-2 : tie.Need-mul-word-2 Inv-loop μ-loop
+mul-word-2 c =
+    let l = c .before in
+    let w = l .before .words in
+    let s = l .before .before .before .before .before in
+    let g = s .args in
+    omega (arith, last-inside (l .loop .i) (g .rows) (g .columns) (w .result) (g .at) (length (now (g .b))) (c .loop-test .taken) (w .ensures) (s .pre .1) (s .pre .3), s .pre .1, w .ensures)
+
+add-word-2 : tie.Need-add-word-2 Inv-loop μ-loop
+add-word-2 c =
+    let l = c .before in
+    let w = l .before .words in
+    let s = l .before .before .before .before .before in
+    let g = s .args in
+    omega (arith, last-inside (l .loop .i) (g .rows) (g .columns) (w .result) (g .at) (length (now (g .b))) (c .loop-test .taken) (w .ensures) (s .pre .1) (s .pre .3), s .pre .1, w .ensures)
+
+word-requires : tie.Need-word-requires Inv-loop μ-loop
+word-requires c κs =
+    let l = c .before in
+    let w = l .before .words in
+    let s = l .before .before .before .before .before in
+    let g = s .args in
+    last-inside (l .loop .i) (g .rows) (g .columns) (w .result) (g .at) (length (now (g .b))) (c .loop-test .taken) (w .ensures) (s .pre .1) (s .pre .3)
+
+shr-if2 : tie.Need-shr-if2 Inv-loop μ-loop
+shr-if2 c = search needs
+
+returns-2 : tie.Need-returns-2 Inv-loop μ-loop
+returns-2 c =
+    let l = c .before .before .before in
+    let w = l .before .words in
+    let o = l .before .before .before .odd-bits in
+    let s = l .before .before .before .before .before in
+    let g = s .args in
+    let i = l .loop .i in
+    let h : i < g .rows = c .before .before .loop-test .taken in
+    not-clean (g .kind) (g .at) (g .rows) (g .columns) (now (g .b)) i h
+    (λ n. c .if2 .taken (last-word (g .kind) (g .at) (g .rows) (g .columns) (now (g .b)) (λ j. l .before .before .before .before .shared-slice-known .given j .fits)
+    i (w .result) (o .result) (c .before .word .result) h (w .ensures) (o .ensures) (l .before .before .if1 .left) (c .before .word .ensures) .0 n))
+
+add-i : tie.Need-add-i Inv-loop μ-loop
+add-i c = search needs
+
+loop-less : tie.Need-loop-less Inv-loop μ-loop
+loop-less c = search needs
+
+loop-again : tie.Need-loop-again Inv-loop μ-loop
+loop-again c =
+    let l = c .before .before .before in
+    let w = l .before .words in
+    let o = l .before .before .before .odd-bits in
+    let s = l .before .before .before .before .before in
+    let g = s .args in
+    let i = l .loop .i in
+    let h : i < g .rows = c .before .before .loop-test .taken in (
+      below-more (λ (k : ℕ). row (matrixAt (g .kind) (g .at) (g .rows) (g .columns) (now (g .b))) k < 2 ^ g .columns) i (l .loop .inv .0)
+          (last-word (g .kind) (g .at) (g .rows) (g .columns) (now (g .b)) (λ j. l .before .before .before .before .shared-slice-known .given j .fits)
+          i (w .result) (o .result) (c .before .word .result) h (w .ensures) (o .ensures) (l .before .before .if1 .left) (c .before .word .ensures) .1 (c .if2 .left)),
+      search needs,
+    )
+
+returns-3 : tie.Need-returns-3 Inv-loop μ-loop
+returns-3 c =
+    let l = c .before in
+    let s = l .before .before .before .before .before in
+    let g = s .args in
+    all-clean (g .kind) (g .at) (g .rows) (g .columns) (now (g .b)) (λ k h. l .loop .inv .0 k (lt-of-lt-of-le h (c .loop-test .left)))
+
+pub is-clean-spec : {M : Type 1} → statement M
+is-clean-spec =
+    tie.close
+    (tie.spec
+    Inv-loop
+    μ-loop
+    odd-bits-requires
+    returns
+    words-requires
+    loop-holds
+    mul-word
+    sub-word
+    add-word
+    mul-word-2
+    add-word-2
+    word-requires
+    shr-if2
+    returns-2
+    add-i
+    loop-less
+    loop-again
+    returns-3)

@@ -1,0 +1,114 @@
+-- What bytes say as a bundle: its entries, or the refusal that the order of the checks gives first.
+use mathlib.Core.Bool.{Bool, true, false, not, cond}
+use mathlib.Core.List.{List, [], _∷_}
+use Prim.Native.Nat.{ℕ, zero, suc, _+_, _*_}
+use lib.Dec.{eqb, ltb}
+use lib.ListN.{length}
+use Rattle.words.specs.Words.{wordsOf, rowsOf}
+use Rattle.wire.specs.Bytes.{num}
+use Rattle.wire.specs.Kinds.{wordsAt}
+use Rattle.refusals.specs.declared.Refusal.{Refusal}
+use Rattle.refusals.specs.declared.Refusal.the-variants.{DirtyPadding, BundleSize, EntryCount, ContentsCut, BadKind, BadShape, WrongOffset, BodyPast, BytesLeft}
+use Rattle.refusals.specs.declared.Outcome.{Outcome}
+use Rattle.refusals.specs.declared.Outcome.the-variants.{Done, Refused}
+use Rattle.refusals.specs.Outcome.{refuseIf, _andThen_}
+use Rattle.refusals.specs.Checks.{narrow}
+
+-- a matrix in a bundle, its rows as numbers
+pub record Entry : Type 0 where
+  pub kind : ℕ
+  pub rows : ℕ
+  pub columns : ℕ
+  pub matrix : List ℕ
+
+-- the words of a body
+unfoldable pub bodyWords : ℕ → ℕ → ℕ
+bodyWords rows columns = rows * wordsOf columns
+
+-- ---- where things stand: two bytes for the count, ten for each entry, then the bodies
+
+abbrev pub headBytes : ℕ → ℕ
+headBytes n = 2 + 10 * n
+
+abbrev pub countOf : List ℕ → ℕ
+countOf b = num 2 0 b
+
+abbrev pub kindAt : ℕ → List ℕ → ℕ
+kindAt i b = num 2 (headBytes i) b
+
+abbrev pub rowsAt : ℕ → List ℕ → ℕ
+rowsAt i b = num 2 (headBytes i + 2) b
+
+abbrev pub columnsAt : ℕ → List ℕ → ℕ
+columnsAt i b = num 2 (headBytes i + 4) b
+
+abbrev pub offsetAt : ℕ → List ℕ → ℕ
+offsetAt i b = num 4 (headBytes i + 6) b
+
+abbrev pub wordsIn : ℕ → List ℕ → ℕ
+wordsIn i b = bodyWords (rowsAt i b) (columnsAt i b)
+
+-- the matrix in a body that begins at byte p. A one past its last column shows in the row's number, whichever the kind
+unfoldable pub matrixAt : ℕ → ℕ → ℕ → ℕ → List ℕ → List ℕ
+matrixAt kind p rows columns b = rowsOf (wordsOf columns) rows (wordsAt kind p (bodyWords rows columns) b)
+
+-- ---- the checks of an entry
+
+-- A rule says what a kind gets. This one takes kind 1, gives kind 2 what it is told, and knows no other.
+unfoldable pub kindRule : Outcome → ℕ → Outcome
+kindRule two kind = cond (eqb kind 2) two (refuseIf (not (eqb kind 1)) BadKind)
+
+-- both kinds are taken
+abbrev pub bothKinds : ℕ → Outcome
+bothKinds = kindRule Done
+
+unfoldable pub badShape : ℕ → ℕ → Outcome
+badShape rows columns = refuseIf (ltb 512 rows) BadShape andThen refuseIf (eqb columns 0) BadShape andThen refuseIf (ltb 1024 columns) BadShape
+
+-- a body that should begin at byte p: where the contents say it is, inside the bundle, its padding zero
+unfoldable pub bodyChecks : ℕ → ℕ → ℕ → ℕ → ℕ → List ℕ → Outcome
+bodyChecks kind rows columns offset p b =
+    refuseIf (not (eqb offset p)) WrongOffset andThen refuseIf (ltb (length b) (p + 8 * bodyWords rows columns)) BodyPast
+    andThen refuseIf (not (narrow columns (matrixAt kind p rows columns b))) DirtyPadding
+
+unfoldable pub entryChecks : (ℕ → Outcome) → ℕ → ℕ → List ℕ → Outcome
+entryChecks rule i p b =
+    rule (kindAt i b) andThen badShape (rowsAt i b) (columnsAt i b) andThen bodyChecks (kindAt i b) (rowsAt i b) (columnsAt i b) (offsetAt i b) p b
+
+-- n entries from entry i on, one after the other, their bodies from byte p on; then nothing may be left
+unfoldable pub entriesChecks : (ℕ → Outcome) → ℕ → ℕ → ℕ → List ℕ → Outcome
+entriesChecks rule zero i p b = refuseIf (not (eqb p (length b))) BytesLeft
+entriesChecks rule (suc n) i p b = entryChecks rule i p b andThen entriesChecks rule n (i + 1) (p + 8 * wordsIn i b) b
+
+-- ---- the whole
+
+unfoldable pub bundleChecks : (ℕ → Outcome) → List ℕ → Outcome
+bundleChecks rule b =
+    refuseIf (ltb (length b) 2) BundleSize andThen refuseIf (ltb 65535 (length b)) BundleSize
+    andThen refuseIf (eqb (countOf b) 0) EntryCount andThen refuseIf (ltb 64 (countOf b)) EntryCount
+    andThen refuseIf (ltb (length b) (headBytes (countOf b))) ContentsCut
+    andThen entriesChecks rule (countOf b) 0 (headBytes (countOf b)) b
+
+unfoldable pub entryAt : ℕ → List ℕ → Entry
+entryAt i b =
+    record { kind = kindAt i b; rows = rowsAt i b; columns = columnsAt i b; matrix = matrixAt (kindAt i b) (offsetAt i b) (rowsAt i b) (columnsAt i b) b }
+
+-- n entries from entry i on
+unfoldable pub entriesFrom : ℕ → ℕ → List ℕ → List Entry
+entriesFrom zero i b = []
+entriesFrom (suc n) i b = entryAt i b ∷ entriesFrom n (i + 1) b
+
+unfoldable pub entriesOf : List ℕ → List Entry
+entriesOf b = entriesFrom (countOf b) 0 b
+
+pub data Meaning : Type 0 where
+  refused : Refusal → Meaning
+  bundle : List Entry → Meaning
+
+abbrev pub meantBy : Outcome → List Entry → Meaning
+meantBy Done es = bundle es
+meantBy (Refused r) es = refused r
+
+-- the meaning of bytes, under a rule for kinds
+unfoldable pub meaning : (ℕ → Outcome) → List ℕ → Meaning
+meaning rule b = meantBy (bundleChecks rule b) (entriesOf b)

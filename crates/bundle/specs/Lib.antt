@@ -1,0 +1,2 @@
+pub mod Bundle
+pub mod Answers

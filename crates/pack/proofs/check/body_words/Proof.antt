@@ -1,0 +1,31 @@
+-- Rows times words, both at most what 16 bits give.
+use mathlib.Core.Path.{ap₂, _∙_}
+use Rattle.bundle.specs.Bundle.{bodyWords}
+use Rattle.pack.proofs.Turns.{body-small, body-same}
+use borrow.Author.Needs.{needs}
+use native.Mathlib.Omega.{arith}
+use Rattle.pack.proofs.check.body_words.Statement.{statement}
+use Rattle.pack.proofs.check.body_words.Tie as tie
+
+wide-requires : tie.Need-wide-requires
+wide-requires c κs = search needs
+
+wide-requires-2 : tie.Need-wide-requires-2
+wide-requires-2 c κs = search needs
+
+words-requires : tie.Need-words-requires
+words-requires c κs = search needs
+
+mul-result : tie.Need-mul-result
+mul-result c =
+    omega (arith, body-small (c .before .before .wide .result) (c .words .result) (c .before .before .wide .ensures .1) (omega (arith, c .words .ensures, c .before .wide2 .ensures .1)))
+
+returns : tie.Need-returns
+returns c = (
+  body-same (c .before .before .wide .result) (c .before .wide2 .result) (c .words .ensures) ∙ ap₂ bodyWords (c .before .before .wide .ensures .0) (c .before .wide2 .ensures .0),
+  body-small (c .before .before .wide .result) (c .words .result) (c .before .before .wide .ensures .1) (omega (arith, c .words .ensures, c .before .wide2 .ensures .1)),
+)
+
+pub body-words-spec : {M : Type 1} → statement M
+body-words-spec =
+    tie.close (tie.spec wide-requires wide-requires-2 words-requires mul-result returns)

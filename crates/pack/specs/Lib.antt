@@ -1,0 +1,3 @@
+pub mod Encode
+pub mod Writing
+pub mod Steps

@@ -1,0 +1,75 @@
+-- What the writer writes and answers.
+use mathlib.Core.Bool.{Bool, true, false, not, _&&_}
+use mathlib.Core.List.{List, [], _∷_, _++_}
+use Prim.Native.Nat.{ℕ, _+_, _*_}
+use lib.Dec.{eqb, ltb}
+use lib.ListN.{length, drop}
+use Rattle.words.specs.Words.{wordsOf, rowsOf}
+use Rattle.refusals.specs.declared.Refusal.the-variants.{WrongLength, DirtyPadding, WrongBuffer, EntryCount, ShortOutput, BundleOver}
+use Rattle.refusals.specs.declared.Outcome.{Outcome}
+use Rattle.refusals.specs.declared.Outcome.the-variants as outcome
+use Rattle.refusals.specs.Outcome.{numberOf, refuseIf, _andThen_}
+use Rattle.refusals.specs.Checks.{narrow}
+use Rattle.bundle.specs.Bundle.{Entry, bodyWords, headBytes, badShape}
+use Rattle.pack.specs.declared.Written.{Written}
+use Rattle.pack.specs.declared.Written.the-variants.{Bytes, Refused}
+
+-- the number of an answer: 0 where nothing is refused
+abbrev pub writtenNumber : Written → ℕ
+writtenNumber (Bytes n) = 0
+writtenNumber (Refused r) = numberOf r
+
+-- the entries that the lists give: each takes its rows from the front of the words
+unfoldable pub given : List ℕ → List ℕ → List ℕ → List ℕ → List Entry
+given [] rs cs ws = []
+given (k ∷ ks) [] cs ws = []
+given (k ∷ ks) (r ∷ rs) [] ws = []
+given (k ∷ ks) (r ∷ rs) (c ∷ cs) ws =
+    record { kind = k; rows = r; columns = c; matrix = rowsOf (wordsOf c) r ws } ∷ given ks rs cs (drop (bodyWords r c) ws)
+
+-- ---- the checks
+
+-- kind and shape, entry by entry
+unfoldable pub shapesChecks : (ℕ → Outcome) → List ℕ → List ℕ → List ℕ → Outcome
+shapesChecks rule [] rs cs = outcome.Done
+shapesChecks rule (k ∷ ks) [] cs = outcome.Done
+shapesChecks rule (k ∷ ks) (r ∷ rs) [] = outcome.Done
+shapesChecks rule (k ∷ ks) (r ∷ rs) (c ∷ cs) = rule k andThen badShape r c andThen shapesChecks rule ks rs cs
+
+-- the words of all bodies
+unfoldable pub allWords : List ℕ → List ℕ → ℕ
+allWords [] cs = 0
+allWords (r ∷ rs) [] = 0
+allWords (r ∷ rs) (c ∷ cs) = bodyWords r c + allWords rs cs
+
+-- no row of any entry has a one past its last column
+unfoldable pub allNarrow : List Entry → Bool
+allNarrow [] = true
+allNarrow (e ∷ es) = narrow (e .columns) (e .matrix) && allNarrow es
+
+-- the bytes of a bundle of n entries and m words
+abbrev pub bundleBytes : ℕ → ℕ → ℕ
+bundleBytes n m = headBytes n + 8 * m
+
+-- past kinds and shapes: the words of all bodies together, their padding, the bundle's length, the output's room
+unfoldable pub roomChecks : List ℕ → List ℕ → List ℕ → List ℕ → ℕ → Outcome
+roomChecks ks rs cs ws room =
+    refuseIf (not (eqb (length ws) (allWords rs cs))) WrongLength andThen refuseIf (not (allNarrow (given ks rs cs ws))) DirtyPadding
+    andThen refuseIf (ltb 65535 (bundleBytes (length ks) (length ws))) BundleOver andThen refuseIf (ltb room (bundleBytes (length ks) (length ws))) ShortOutput
+
+unfoldable pub writeChecks : (ℕ → Outcome) → List ℕ → List ℕ → List ℕ → List ℕ → ℕ → Outcome
+writeChecks rule ks rs cs ws room =
+    refuseIf (not (eqb (length rs) (length ks))) WrongBuffer andThen refuseIf (not (eqb (length cs) (length ks))) WrongBuffer
+    andThen refuseIf (eqb (length ks) 0) EntryCount andThen refuseIf (ltb 64 (length ks)) EntryCount
+    andThen shapesChecks rule ks rs cs andThen roomChecks ks rs cs ws room
+
+-- ---- what is answered, and what the output then holds
+
+unfoldable pub writtenBy : Outcome → ℕ → Written
+writtenBy outcome.Done n = Bytes n
+writtenBy (outcome.Refused r) n = Refused r
+
+-- the bundle, and past it what stood there; or the output as it was
+unfoldable pub outputBy : Outcome → List ℕ → List ℕ → List ℕ
+outputBy outcome.Done b out = b ++ drop (length b) out
+outputBy (outcome.Refused r) b out = out

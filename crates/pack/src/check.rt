@@ -1,0 +1,135 @@
+// The writer's checks, in their order.
+ghost use mathlib.Core.Path.{_≡_};
+ghost use Prim.Native.Nat.{_+_, _*_, _≤_, _<_};
+ghost use lib.ListN.{length, take, drop};
+ghost use Rattle.refusals.specs.declared.Outcome.the-variants.{Done};
+ghost use Rattle.refusals.specs.Checks.{narrow};
+ghost use Rattle.words.specs.Words.{wordsOf, rowsOf};
+ghost use Rattle.bundle.specs.Bundle.{bodyWords, kindRule};
+ghost use Rattle.pack.specs.Writing.{given, shapesChecks, allWords, allNarrow, writeChecks, roomChecks};
+ghost use Rattle.pack.specs.Steps.{anyKind, Agreed};
+use refusals::Outcome;
+use refusals::Refusal;
+
+pub(crate) fn wide(x: u16) -> usize
+    ensures { λ r. ⌜ (r ≡ x) × (r ≤ 65535) ⌝ }
+{
+    x as usize
+}
+
+// kind and shape, entry by entry
+fn shapes(two: Outcome, kinds: &[u16], rows: &[u16], columns: &[u16]) -> Outcome
+    requires { ⌜ (length (now rows) ≡ length (now kinds)) × (length (now columns) ≡ length (now kinds)) ⌝ }
+    ensures { λ o. ⌜ o ≡ shapesChecks (kindRule two) (now (kinds .entry)) (now (rows .entry)) (now (columns .entry)) ⌝ }
+{
+    let mut i = 0;
+    while i < kinds.len() {
+        let o = bundle::ruled::shape(two, wide(kinds[i]), wide(rows[i]), wide(columns[i]));
+        if o.number() != 0 {
+            return o;
+        }
+        i += 1;
+    }
+    Outcome::Done
+}
+
+// the words of a body, whatever its rows and columns
+fn body_words(rows: u16, columns: u16) -> usize
+    ensures { λ r. ⌜ (r ≡ bodyWords rows columns) × (r ≤ 67107840) ⌝ }
+{
+    wide(rows) * refusals::words(wide(columns))
+}
+
+// the words of all bodies
+fn all_words(rows: &[u16], columns: &[u16]) -> usize
+    requires { ⌜ (length (now columns) ≡ length (now rows)) × (length (now rows) ≤ 64) ⌝ }
+    ensures { λ r. ⌜ (r ≡ allWords (now (rows .entry)) (now (columns .entry))) × (r ≤ 4294901760) ⌝ }
+{
+    let mut t = 0;
+    let mut i = 0;
+    while i < rows.len() {
+        t += body_words(rows[i], columns[i]);
+        i += 1;
+    }
+    t
+}
+
+// whether no row of a body has a one past its last column
+fn part_narrow(words: &[u64], a: usize, rows: usize, columns: usize) -> bool
+    requires { ⌜ (rows ≤ 512) × (0 < columns) × (columns ≤ 1024) × (a + bodyWords rows columns ≤ length (now words)) ⌝ }
+    ensures { λ r. ⌜ r ≡ narrow columns (rowsOf (wordsOf columns) rows (drop a (now (words .entry)))) ⌝ }
+{
+    let e = a + rows * refusals::words(columns);
+    refusals::holds(&words[a..e], rows, columns)
+}
+
+// whether no row of any entry has one
+fn all_narrow(kinds: &[u16], rows: &[u16], columns: &[u16], words: &[u64]) -> bool
+    requires { ⌜ Agreed (now kinds) (now rows) (now columns) (now words) ⌝ }
+    ensures { λ r. ⌜ r ≡ allNarrow (given (now (kinds .entry)) (now (rows .entry)) (now (columns .entry)) (now (words .entry))) ⌝ }
+{
+    let mut a = 0;
+    let mut i = 0;
+    while i < kinds.len() {
+        let r = wide(rows[i]);
+        let c = wide(columns[i]);
+        if part_narrow(words, a, r, c) {
+            a += r * refusals::words(c);
+            i += 1;
+        } else {
+            return false;
+        }
+    }
+    true
+}
+
+// past kinds and shapes: the words, their padding, the bundle's length, the output's room
+fn room_for(kinds: &[u16], rows: &[u16], columns: &[u16], words: &[u64], room: usize) -> Outcome
+    requires { ⌜ (length (now rows) ≡ length (now kinds)) × (length (now columns) ≡ length (now kinds)) × (length (now kinds) ≤ 64) × (shapesChecks anyKind (now kinds) (now rows) (now columns) ≡ Done) ⌝ }
+    ensures { λ o. ⌜ o ≡ roomChecks (now (kinds .entry)) (now (rows .entry)) (now (columns .entry)) (now (words .entry)) room ⌝ }
+{
+    let t = all_words(rows, columns);
+    if words.len() != t {
+        return Outcome::Refused(Refusal::WrongLength);
+    }
+    if all_narrow(kinds, rows, columns, words) {
+        let size = 2 + 10 * kinds.len() + 8 * words.len();
+        if 65535 < size {
+            return Outcome::Refused(Refusal::BundleOver);
+        }
+        if room < size {
+            return Outcome::Refused(Refusal::ShortOutput);
+        }
+        return Outcome::Done;
+    }
+    Outcome::Refused(Refusal::DirtyPadding)
+}
+
+pub(crate) fn all(
+    two: Outcome,
+    kinds: &[u16],
+    rows: &[u16],
+    columns: &[u16],
+    words: &[u64],
+    room: usize,
+) -> Outcome
+    ensures { λ o. ⌜ o ≡ writeChecks (kindRule two) (now (kinds .entry)) (now (rows .entry)) (now (columns .entry)) (now (words .entry)) room ⌝ }
+{
+    if rows.len() != kinds.len() {
+        return Outcome::Refused(Refusal::WrongBuffer);
+    }
+    if columns.len() != kinds.len() {
+        return Outcome::Refused(Refusal::WrongBuffer);
+    }
+    if kinds.len() == 0 {
+        return Outcome::Refused(Refusal::EntryCount);
+    }
+    if 64 < kinds.len() {
+        return Outcome::Refused(Refusal::EntryCount);
+    }
+    let o = shapes(two, kinds, rows, columns);
+    if o.number() != 0 {
+        return o;
+    }
+    room_for(kinds, rows, columns, words, room)
+}

@@ -1,0 +1,3 @@
+-- The laws of the report.
+pub mod Lines
+pub mod Entries

@@ -1,0 +1,54 @@
+-- The rows of a reduced matrix that are not zero are its first ones, as many as its rank.
+use mathlib.Core.Path.{_≡_, refl, sym, ap, ap₂, _∙_, subst}
+use mathlib.Core.Logic.{_≢_}
+use mathlib.Core.Bool.{Bool, true, false, cond}
+use mathlib.Core.List.{List, [], _∷_, _++_, append-assoc, append-nil}
+use Prim.Native.Nat.{ℕ, zero, suc, _+_, _<_, _≤_}
+use native.Mathlib.Numerals.{add-one}
+use native.Mathlib.Omega.{arith}
+use lib.Dec.{eqb}
+use lib.ListN.{length, take, drop, getD, take-append-drop}
+use lib.Seq.{take-suc, getD-drop}
+use borrow.Author.Tests.{eq-eqb, ne-eqb}
+use Rattle.gf2.specs.Rows.{row}
+use Rattle.gf2.specs.Reduced.{Reduced, rank}
+use Rattle.gf2.proofs.Pivots.{rank-used, rank-rest}
+use Rattle.text.specs.Text.{newline, bits}
+use Rattle.reduce.specs.Report.{rowLines}
+
+-- the lines of rows after rows
+lines-append : (columns : ℕ) (R S : List ℕ) → rowLines columns (R ++ S) ≡ rowLines columns R ++ rowLines columns S
+unfolding rowLines
+lines-append columns [] S = refl
+lines-append columns (v ∷ R) S = go (eqb v 0)
+  where
+    ih : rowLines columns (R ++ S) ≡ rowLines columns R ++ rowLines columns S
+    ih = lines-append columns R S
+
+    go : (t : Bool) → cond t (rowLines columns (R ++ S)) (bits columns v ++ newline ++ rowLines columns (R ++ S))
+        ≡ cond t (rowLines columns R) (bits columns v ++ newline ++ rowLines columns R) ++ rowLines columns S
+    go true = ih
+    go false = ap (λ (l : List ℕ). bits columns v ++ newline ++ l) ih ∙ sym (append-assoc (bits columns v ++ newline) (rowLines columns R) (rowLines columns S))
+
+-- a row more
+pub lines-more : (columns i v : ℕ) (R : List ℕ) → i < length R → v ≡ row R i → v ≢ 0 → rowLines columns (take i R) ++ (bits columns v ++ newline) ≡ rowLines columns (take (i + 1) R)
+unfolding rowLines
+lines-more columns i v R h e ne =
+    sym (ap (rowLines columns) (ap (λ (k : ℕ). take k R) (add-one i) ∙ take-suc R i 0 h ∙ ap (λ (x : ℕ). take i R ++ (x ∷ [])) (sym e))
+    ∙ lines-append columns (take i R) (v ∷ [])
+    ∙ ap (λ (l : List ℕ). rowLines columns (take i R) ++ l) (ap (λ (t : Bool). cond t [] (bits columns v ++ newline ++ [])) (ne-eqb v 0 ne) ∙ append-nil (bits columns v ++ newline)))
+
+no-lines : (columns : ℕ) (S : List ℕ) → ((i : ℕ) → row S i ≡ 0) → rowLines columns S ≡ []
+unfolding rowLines
+no-lines columns [] z = refl
+no-lines columns (v ∷ S) z =
+    ap (λ (t : Bool). cond t (rowLines columns S) (bits columns v ++ newline ++ rowLines columns S)) (eq-eqb v 0 (z 0)) ∙ no-lines columns S (λ i. z (suc i))
+
+-- the rows past the rank take no line
+pub lines-whole : (columns : ℕ) (R : List ℕ) → Reduced R → rowLines columns (take (rank R) R) ≡ rowLines columns R
+lines-whole columns R red =
+    let rest : rowLines columns (drop (rank R) R) ≡ [] = no-lines columns (drop (rank R) R) (λ i. getD-drop (rank R) R i 0 ∙ rank-rest R red (rank R + i) (omega arith)) in
+    sym (ap (rowLines columns) (sym (take-append-drop (rank R) R))
+    ∙ lines-append columns (take (rank R) R) (drop (rank R) R)
+    ∙ ap (λ (l : List ℕ). rowLines columns (take (rank R) R) ++ l) rest
+    ∙ append-nil (rowLines columns (take (rank R) R)))

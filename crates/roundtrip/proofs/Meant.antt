@@ -1,0 +1,37 @@
+-- What a meaning says of the checks: bytes mean a bundle exactly if nothing is refused.
+use mathlib.Core.Path.{_≡_, refl, sym, ap, ap₂, _∙_}
+use mathlib.Core.Logic.{_↔_}
+use mathlib.Core.List.{List}
+use Prim.Native.Nat.{ℕ}
+use Rattle.refusals.specs.declared.Outcome.{Outcome}
+use Rattle.refusals.specs.declared.Outcome.the-variants.{Done, Refused}
+use Rattle.bundle.specs.Bundle.{Entry, countOf, bundleChecks, entriesFrom, entriesOf, bundle, meantBy, meaning}
+use Rattle.bundle.specs.Answers.{countEntries, countedIn}
+use Rattle.bundle.specs.declared.Counted.the-variants as counted
+use Rattle.roundtrip.proofs.FromBytes.{count-from}
+
+meant-by : (o : Outcome) (es es′ : List Entry) → meantBy o es ≡ bundle es′ → (o ≡ Done) × (es ≡ es′)
+meant-by Done es es′ e = (refl, cc)
+meant-by (Refused r) es es′ e = (cc, cc)
+
+pub meant : (rule : ℕ → Outcome) (b : List ℕ) (es : List Entry) → meaning rule b ≡ bundle es → (bundleChecks rule b ≡ Done) × (entriesOf b ≡ es)
+unfolding meaning
+meant rule b es e = meant-by (bundleChecks rule b) (entriesOf b) es e
+
+pub means : (rule : ℕ → Outcome) (b : List ℕ) (es : List Entry) → bundleChecks rule b ≡ Done → entriesOf b ≡ es → meaning rule b ≡ bundle es
+unfolding meaning
+means rule b es d e = ap₂ meantBy d e
+
+counted-by : (o : Outcome) (es : List Entry) (n : ℕ) → countedIn (meantBy o es) ≡ counted.Entries n → (o ≡ Done) × (countEntries es ≡ n)
+unfolding countedIn
+counted-by Done es n e = (refl, cc)
+counted-by (Refused r) es n e = (cc, cc)
+
+-- reading tells a count exactly if nothing is refused, and then it is the one in the first two bytes
+pub exactly : (rule : ℕ → Outcome) (b : List ℕ) (n : ℕ) → (countedIn (meaning rule b) ≡ counted.Entries n) ↔ ((bundleChecks rule b ≡ Done) × (countOf b ≡ n))
+unfolding meaning entriesOf countedIn
+exactly rule b n = (
+  λ e. let t = counted-by (bundleChecks rule b) (entriesFrom (countOf b) 0 b) n e in
+      (t .0, sym (count-from (countOf b) 0 b) ∙ t .1),
+  λ t. ap (λ (o : Outcome). countedIn (meantBy o (entriesFrom (countOf b) 0 b))) (t .0) ∙ ap counted.Entries (count-from (countOf b) 0 b ∙ t .1),
+)

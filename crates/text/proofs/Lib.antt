@@ -1,0 +1,3 @@
+-- Texts put one after the other.
+pub mod Putting
+pub mod Digits

@@ -1,0 +1,22 @@
+-- A word of the row, or past its end.
+use denote.Ref.{now}
+use mathlib.Core.Path.{sym}
+use lib.ListN.{List·getD-eq-default}
+use borrow.Author.Needs.{needs}
+use Rattle.text.proofs.word.Statement.{statement}
+use Rattle.text.proofs.word.Tie as tie
+
+mul-result : tie.Need-mul-result
+mul-result c = search needs
+
+shared-slice-read-result : tie.Need-shared-slice-read-result
+shared-slice-read-result c = search needs
+
+returns : tie.Need-returns
+returns c = search needs
+
+returns-2 : tie.Need-returns-2
+returns-2 c = let g = c .before .args in sym (List·getD-eq-default (now (g .row)) 0 {n = g .l} (c .if1 .left))
+
+pub word-spec : {M : Type 1} → statement M
+word-spec = tie.close (tie.spec mul-result shared-slice-read-result returns returns-2)
