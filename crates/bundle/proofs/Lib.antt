@@ -4,3 +4,4 @@ pub mod Bodies
 pub mod Columns
 pub mod Steps
 pub mod Meaning
+pub mod Exactly

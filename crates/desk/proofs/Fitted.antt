@@ -1,8 +1,8 @@
 -- Unpacked and reduced, an entry's words hold its reduced form.
 use mathlib.Core.Path.{_≡_, refl, sym, ap, ap₂, _∙_, subst}
-use mathlib.Core.Bool.{Bool, true, false}
+use mathlib.Core.Bool.{Bool}
 use mathlib.Core.List.{List}
-use Prim.Native.Nat.{ℕ, _*_, _^_, _≤_}
+use Prim.Native.Nat.{ℕ, _*_, _≤_}
 use lib.ListN.{length}
 use borrow.Author.Tests.{eq-eqb}
 use Rattle.gf2.specs.Reduced.{rank}
@@ -10,7 +10,6 @@ use Rattle.gf2.specs.Additions.{additions}
 use Rattle.gf2.specs.Rref.{rref}
 use Rattle.words.specs.Words.{Fit, wordsOf, rowsOf, flat}
 use Rattle.refusals.specs.declared.Outcome.{Outcome}
-use Rattle.engine.specs.Core.{zeroed}
 use Rattle.matrix.specs.declared.Answer.{Answer}
 use Rattle.matrix.specs.Calls.{Reduction, byOutcome, reduction}
 use Rattle.bundle.specs.Bundle.{Entry, bodyWords}
@@ -35,10 +34,11 @@ module _ (e : Entry) (s : Sound e) (words₀ words₁ room : List ℕ) (a : Answ
 
   pub whole : reducedWhole (found e) room (reduced.Entry (e .rows) (e .columns) (a .rank) (a .additions)) words₂ room₂
   unfolding reducedOf
-  whole =
-      (ap₂ (reduced.Entry (e .rows) (e .columns)) (ap (λ (x : Answer). x .rank) (done .answered) ∙ ap rank rows) (ap (λ (x : Answer). x .additions) (done .answered) ∙ ap (additions 4 (e .columns)) rows),
-       form-words e s words₁ words₂ laid (done .reduced) (l ∙ n) fit,
-       done .cleared)
+  whole = (
+    ap₂ (reduced.Entry (e .rows) (e .columns)) (ap (λ (x : Answer). x .rank) (done .answered) ∙ ap rank rows) (ap (λ (x : Answer). x .additions) (done .answered) ∙ ap (additions 4 (e .columns)) rows),
+    form-words e s words₁ words₂ laid (done .reduced) (l ∙ n) fit,
+    done .cleared,
+  )
 
 pub fitted : (F : Found) (rows columns : ℕ) → Shows rows columns F → ((e : Entry) → F ≡ found e → Sound e) → (words₀ words₁ room : List ℕ) (a : Answer) (words₂ room₂ : List ℕ)
     → length words₀ ≡ bodyWords rows columns → words₁ ≡ unpackedOf (lentFor (length words₀) F) words₀ → tableRows * wordsOf columns ≤ length room
@@ -50,6 +50,6 @@ fitted (found e) rows columns s sound words₀ words₁ room a words₂ room₂ 
     subst (λ (x : ℕ). reducedWhole (found e) room (reduced.Entry x columns (a .rank) (a .additions)) words₂ room₂) (s .0)
     (subst (λ (x : ℕ). reducedWhole (found e) room (reduced.Entry (e .rows) x (a .rank) (a .additions)) words₂ room₂) (s .1)
     (whole e (sound e refl) words₀ words₁ room a words₂ room₂
-      (n ∙ ap₂ bodyWords er ec) u (subst (λ (x : ℕ). tableRows * wordsOf x ≤ length room) ec enough)
-      (subst (λ (x : ℕ). reduction x (e .columns) 4 words₁ room a words₂ room₂) er (subst (λ (x : ℕ). reduction rows x 4 words₁ room a words₂ room₂) ec r)) l fit))
+    (n ∙ ap₂ bodyWords er ec) u (subst (λ (x : ℕ). tableRows * wordsOf x ≤ length room) ec enough)
+    (subst (λ (x : ℕ). reduction x (e .columns) 4 words₁ room a words₂ room₂) er (subst (λ (x : ℕ). reduction rows x 4 words₁ room a words₂ room₂) ec r)) l fit))
 fitted (missing x) rows columns s sound words₀ words₁ room a words₂ room₂ n u enough r l fit = absurd s

@@ -1,12 +1,12 @@
 -- The words of an entry, reduced, are those of its reduced form.
-use mathlib.Core.Path.{_≡_, refl, sym, ap, ap₂, _∙_, subst}
+use mathlib.Core.Path.{_≡_, sym, ap, _∙_, subst}
 use mathlib.Core.List.{List}
-use Prim.Native.Nat.{ℕ, _+_, _*_, _/_, _^_, _<_, _≤_}
+use Prim.Native.Nat.{ℕ, _*_, _^_, _<_, _≤_}
 use native.Mathlib.Nat.{lt-of-lt-of-le}
 use native.Mathlib.Omega.{arith}
 use lib.Dec.{lit<, lit≤}
 use lib.Pow.{pow-mono}
-use lib.ListN.{length, take}
+use lib.ListN.{length}
 use lib.Seq.{take-all}
 use Rattle.gf2.specs.Rows.{row}
 use Rattle.gf2.specs.Reduced.{ReducedForm}
@@ -16,7 +16,7 @@ use Rattle.gf2.proofs.Rref.{rref-form}
 use Rattle.words.specs.Words.{Fit, wordsOf, rowsOf, flat}
 use Rattle.words.proofs.Flat.{length-flat, rows-flat, flat-rows}
 use Rattle.refusals.specs.declared.Outcome.the-variants.{Done}
-use Rattle.refusals.specs.Checks.{reductionChecks, ReductionPasses}
+use Rattle.refusals.specs.Checks.{reductionChecks}
 use Rattle.refusals.proofs.Passed.{passes-reduction}
 use Rattle.bundle.specs.Bundle.{Entry, bodyWords}
 use Rattle.desk.proofs.Sound.{Sound}

@@ -9,10 +9,8 @@ use native.Mathlib.Omega.{arith}
 use lib.Dec.{leb}
 use lib.ListN.{length, drop}
 use borrow.Author.Tests.{le-leb, lt-leb}
-use Rattle.gf2.specs.Rref.{rref}
-use Rattle.words.specs.Words.{wordsOf, flat}
+use Rattle.words.specs.Words.{wordsOf}
 use Rattle.refusals.specs.declared.Refusal.{Refusal}
-use Rattle.engine.specs.Core.{zeroed}
 use Rattle.bundle.specs.Bundle.{Entry, bodyWords}
 use Rattle.bundle.specs.Answers.{Found, found, missing, toldOf}
 use Rattle.bundle.specs.declared.Told.the-variants as told
@@ -72,7 +70,7 @@ module _ (words room : List ℕ) where
       let n₂ : n ≡ bodyWords (e .rows) (e .columns) = en ∙ sym (ap₂ bodyWords (s .0) (s .1)) in
       let fits : roomFor e words room ≡ true =
       ap₂ _&&_ (le-leb (bodyWords (e .rows) (e .columns)) (length words) (subst (λ (m : ℕ). m ≤ length words) n₂ h))
-        (le-leb (tableRows * wordsOf (e .columns)) (length room) (subst (λ (m : ℕ). tableRows * wordsOf m ≤ length room) (sym (s .1)) k)) in
+      (le-leb (tableRows * wordsOf (e .columns)) (length room) (subst (λ (m : ℕ). tableRows * wordsOf m ≤ length room) (sym (s .1)) k)) in
       subst (λ (t : Bool). reducedBy t e words room r (part ++ drop n words) room′) (sym fits)
-        (w .0, ap₂ (λ (p : List ℕ) (m : ℕ). p ++ drop m words) (w .1) n₂, w .2)
+      (w .0, ap₂ (λ (p : List ℕ) (m : ℕ). p ++ drop m words) (w .1) n₂, w .2)
   front (missing x) rows columns n r part room′ s en h k w = absurd s

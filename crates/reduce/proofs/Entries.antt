@@ -1,12 +1,20 @@
 -- The text of the entries, one entry more at a time.
 use mathlib.Core.Path.{_≡_, refl, sym, ap, ap₂, _∙_}
-use mathlib.Core.List.{List, [], _∷_, _++_, append-assoc, append-nil}
+use mathlib.Core.List.{List, _++_, append-assoc, append-nil}
 use Prim.Native.Nat.{ℕ, zero, suc, _+_}
 use native.Mathlib.Numerals.{add-one}
 use native.Mathlib.Omega.{arith}
 use Rattle.gf2.specs.Rref.{rref}
-use Rattle.bundle.specs.Bundle.{Entry, entryAt, entriesFrom}
-use Rattle.reduce.specs.Report.{entryText, entriesText}
+use Rattle.refusals.specs.declared.Refusal.{Refusal}
+use Rattle.refusals.specs.declared.Outcome.the-variants.{Done}
+use Rattle.bundle.specs.Bundle.{countOf, bothKinds, bundleChecks, entryAt, entriesFrom, entriesOf, meaning}
+use Rattle.bundle.specs.Answers.{countedIn}
+use Rattle.bundle.specs.declared.Counted.the-variants as counted
+use Rattle.bundle.proofs.Meaning.{count-from}
+use Rattle.bundle.proofs.Exactly.{means, refused-means}
+use Rattle.text.specs.Text.{ascii, newline, decimal}
+use Rattle.desk.specs.Desk.{refusedText}
+use Rattle.reduce.specs.Report.{entryText, entriesText, meaningText, report}
 
 -- entry j + n after n entries from entry j on, whose numbers in the text begin at i
 text-more : (n i j : ℕ) (b : List ℕ)
@@ -30,3 +38,15 @@ next-entry i b =
     let z : 0 + i ≡ i = omega arith in
     sym (ap (λ (n : ℕ). entriesText 0 (entriesFrom n 0 b)) (add-one i) ∙ text-more i 0 0 b
     ∙ ap (λ (k : ℕ). entriesText 0 (entriesFrom i 0 b) ++ entryText k (entryAt k b) (rref (entryAt k b .matrix))) z)
+
+-- ---- the whole
+
+pub report-refused : (b : List ℕ) (r : Refusal) → countedIn (meaning bothKinds b) ≡ counted.Refused r → refusedText r ≡ report b
+unfolding report meaningText
+report-refused b r e = sym (ap meaningText (refused-means bothKinds b r e))
+
+pub report-entries : (b : List ℕ) (n : ℕ) → bundleChecks bothKinds b ≡ Done → countOf b ≡ n → entriesText 0 (entriesFrom n 0 b) ++ (ascii "done " ++ decimal n ++ newline) ≡ report b
+unfolding report meaningText entriesOf
+report-entries b n d e =
+    sym (ap meaningText (means bothKinds b (entriesFrom (countOf b) 0 b) d refl)
+    ∙ ap₂ (λ (k m : ℕ). entriesText 0 (entriesFrom k 0 b) ++ (ascii "done " ++ decimal m ++ newline)) e (count-from (countOf b) 0 b ∙ e))

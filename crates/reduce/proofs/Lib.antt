@@ -1,3 +1,4 @@
 -- The laws of the report.
 pub mod Lines
 pub mod Entries
+pub mod Found

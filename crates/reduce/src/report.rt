@@ -1,9 +1,24 @@
 // The text that the program writes: a line for each entry, its rows that are not zero, and the count; or the refusal.
+ghost use mathlib.Core.Path.{_≡_};
+ghost use mathlib.Core.Logic.{_≢_};
+ghost use mathlib.Core.List.{_++_};
+ghost use Prim.Native.Nat.{ℕ, _*_, _≤_, _<_};
+ghost use lib.ListN.{length};
+ghost use Rattle.gf2.specs.Rows.{row};
+ghost use Rattle.gf2.specs.Rref.{rref};
+ghost use Rattle.words.specs.Words.{wordsOf, rowsOf};
+ghost use Rattle.refusals.specs.declared.Outcome.the-variants.{Done};
+ghost use Rattle.bundle.specs.Bundle.{countOf, bothKinds, bundleChecks, entryAt};
+ghost use Rattle.text.specs.Text.{decimal};
+ghost use Rattle.text.specs.Put.{Put};
+ghost use Rattle.reduce.specs.Report.{entryLine, rowLines, entryText, report};
 use bundle::Counted;
 use desk::Reduced;
 
 // a name and a number
-fn field(out: &mut [u8], p: usize, name: &[u8], n: usize) -> usize {
+fn field(out: &mut [u8], p: usize, name: &[u8], n: usize) -> usize
+    ensures { λ r. ⌜ Put p (now (name .entry) ++ decimal n) (now (out .entry)) r (now (out .exit)) ⌝ }
+{
     let q = text::bytes(out, p, name);
     text::decimal(out, q, n)
 }
@@ -17,7 +32,9 @@ fn entry_line(
     columns: usize,
     rank: usize,
     additions: usize,
-) -> usize {
+) -> usize
+    ensures { λ r. ⌜ Put p (entryLine i rows columns rank additions) (now (out .entry)) r (now (out .exit)) ⌝ }
+{
     let a = field(out, p, b"entry ", i);
     let b = field(out, a, b" rows ", rows);
     let c = field(out, b, b" columns ", columns);
@@ -27,7 +44,10 @@ fn entry_line(
 }
 
 // the first n rows, a line each
-fn row_lines(out: &mut [u8], p: usize, words: &[u64], n: usize, columns: usize) -> usize {
+fn row_lines(out: &mut [u8], p: usize, words: &[u64], n: usize, columns: usize) -> usize
+    requires { ⌜ (p ≤ length (now out)) × (n * wordsOf columns ≤ length (now words)) × ((i : ℕ) → i < n → row (rowsOf (wordsOf columns) n (now words)) i ≢ 0) ⌝ }
+    ensures { λ r. ⌜ Put p (rowLines columns (rowsOf (wordsOf columns) n (now (words .entry)))) (now (out .entry)) r (now (out .exit)) ⌝ }
+{
     let w = refusals::words(columns);
     let mut q = p;
     let mut i = 0;
@@ -49,7 +69,10 @@ fn entry(
     room: &mut [u64],
     out: &mut [u8],
     p: usize,
-) -> usize {
+) -> usize
+    requires { ⌜ (bundleChecks bothKinds (now bytes) ≡ Done) × (i < countOf (now bytes)) × (8192 ≤ length (now words)) × (256 ≤ length (now room)) × (p ≤ length (now out)) ⌝ }
+    ensures { λ r. ⌜ Put p (entryText i (entryAt i (now (bytes .entry))) (rref (entryAt i (now (bytes .entry)) .matrix))) (now (out .entry)) r (now (out .exit)) ⌝ }
+{
     let r = desk::reduce_entry(bytes, i, words, room);
     match r {
         Reduced::Refused(_) => p,
@@ -67,7 +90,10 @@ fn entry(
 }
 
 // the whole text
-pub(crate) fn whole(bytes: &[u8], words: &mut [u64], room: &mut [u64], out: &mut [u8]) -> usize {
+pub(crate) fn whole(bytes: &[u8], words: &mut [u64], room: &mut [u64], out: &mut [u8]) -> usize
+    requires { ⌜ (8192 ≤ length (now words)) × (256 ≤ length (now room)) ⌝ }
+    ensures { λ r. ⌜ Put 0 (report (now (bytes .entry))) (now (out .entry)) r (now (out .exit)) ⌝ }
+{
     let c = bundle::read(bytes);
     match c {
         Counted::Refused(r) => desk::refused(out, 0, r),

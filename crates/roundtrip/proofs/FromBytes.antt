@@ -4,28 +4,18 @@ use mathlib.Core.List.{List, _++_}
 use Prim.Native.Nat.{ℕ, zero, suc, _+_, _*_, _≤_}
 use native.Mathlib.Omega.{arith}
 use lib.ListN.{length, take, drop, take-append-drop, drop-of-length-le}
-use lib.Seq.{take-add, take-all, drop-drop}
-use Rattle.words.specs.Words.{wordsOf, flat}
-use Rattle.words.proofs.Flat.{flat-rows}
+use lib.Seq.{take-add, drop-drop}
 use Rattle.wire.specs.Bytes.{Bytes, bytesOf}
 use Rattle.wire.specs.Kinds.{wordsAt, bytesOfWords}
 use Rattle.wire.proofs.Bytes.{bytes-num}
-use Rattle.wire.proofs.Orders.{length-words, words-fit, bytes-words}
+use Rattle.wire.proofs.Orders.{bytes-words}
 use Rattle.refusals.specs.declared.Outcome.{Outcome}
 use Rattle.refusals.specs.declared.Outcome.the-variants.{Done}
-use Rattle.bundle.specs.Bundle.{Entry, bodyWords, headBytes, countOf, kindAt, rowsAt, columnsAt, offsetAt, wordsIn, matrixAt, entriesChecks, bundleChecks, entryAt, entriesFrom, entriesOf}
-use Rattle.bundle.specs.Answers.{countEntries}
+use Rattle.bundle.specs.Bundle.{Entry, headBytes, countOf, kindAt, rowsAt, columnsAt, offsetAt, wordsIn, entriesChecks, bundleChecks, entryAt, entriesFrom, entriesOf}
+use Rattle.bundle.proofs.Bodies.{flat-matrix}
+use Rattle.bundle.proofs.Meaning.{count-from}
 use Rattle.bundle.proofs.Passing.{entries-step, entries-end, Accepted, accepted}
 use Rattle.pack.specs.Encode.{headOf, contentsOf, bodyOf, bodiesOf, encode}
-
--- the rows of a body lose none of its words
-pub flat-matrix : (kind p rows columns : ℕ) (b : List ℕ) → Bytes b
-    → flat (wordsOf columns) (matrixAt kind p rows columns b) ≡ wordsAt kind p (bodyWords rows columns) b
-unfolding matrixAt bodyWords
-flat-matrix kind p rows columns b f =
-    let n : ℕ = rows * wordsOf columns in
-    let l : length (wordsAt kind p n b) ≡ n = length-words kind p n b in
-    flat-rows (wordsOf columns) rows (wordsAt kind p n b) (words-fit kind p n b f) (omega arith) ∙ take-all n (wordsAt kind p n b) (omega arith)
 
 head-again : (i : ℕ) (b : List ℕ) → Bytes b → headBytes (i + 1) ≤ length b
     → headOf (kindAt i b) (rowsAt i b) (columnsAt i b) (offsetAt i b) ≡ take 10 (drop (headBytes i) b)
@@ -70,11 +60,6 @@ module _ (rule : ℕ → Outcome) (b : List ℕ) (f : Bytes b) where
       ∙ bytes-words (kindAt i b) p (wordsIn i b) b f (s .0 .body .inside))
       (bodies-again k (i + 1) (p + 8 * wordsIn i b) (s .1) ∙ sym (drop-drop (8 * wordsIn i b) p b))
       ∙ take-append-drop (8 * wordsIn i b) (drop p b)
-
-pub count-from : (k i : ℕ) (b : List ℕ) → countEntries (entriesFrom k i b) ≡ k
-unfolding countEntries entriesFrom
-count-from zero i b = refl
-count-from (suc k) i b = ap suc (count-from k (i + 1) b)
 
 -- the bytes of an accepted bundle are those of its entries
 pub written-again : (rule : ℕ → Outcome) (b : List ℕ) → Bytes b → bundleChecks rule b ≡ Done → encode (entriesOf b) ≡ b

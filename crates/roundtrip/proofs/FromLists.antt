@@ -28,7 +28,7 @@ use Rattle.pack.proofs.Lengths.{count-given, length-encode}
 use Rattle.pack.proofs.Passing.{Writable, writable}
 use Rattle.roundtrip.specs.Trips.{startOf}
 use Rattle.roundtrip.proofs.FromEntries.{Propers, none, one, read-again}
-use Rattle.roundtrip.proofs.Meant.{means}
+use Rattle.bundle.proofs.Exactly.{means}
 
 and-both : (a b : Bool) → (a && b) ≡ true → (a ≡ true) × (b ≡ true)
 and-both true b e = (refl, e)

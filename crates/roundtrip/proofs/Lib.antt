@@ -1,8 +1,6 @@
 -- The round trips: from bytes, from entries, from the lists that are lent; and the sample bundle.
 pub mod FromBytes
 pub mod FromEntries
-pub mod Meant
 pub mod FromLists
 pub mod SameBytes
 pub mod Holds
-pub mod Columns

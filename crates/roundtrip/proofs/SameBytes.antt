@@ -27,9 +27,10 @@ use Rattle.pack.specs.Writing.{given, shapesChecks, allWords, allNarrow, bundle
 use Rattle.pack.proofs.Lengths.{length-encode}
 use Rattle.pack.proofs.Passing.{write-passes}
 use Rattle.roundtrip.specs.Trips.{kindsOf, rowsListOf, columnsOf, wordsOfAll, startOf}
-use Rattle.roundtrip.proofs.FromBytes.{count-from, written-again}
+use Rattle.roundtrip.proofs.FromBytes.{written-again}
+use Rattle.bundle.proofs.Meaning.{count-from}
 use Rattle.roundtrip.proofs.FromEntries.{Propers, none, one, rows-again}
-use Rattle.roundtrip.proofs.Meant.{meant}
+use Rattle.bundle.proofs.Exactly.{meant}
 use Rattle.roundtrip.proofs.FromLists.{unpacks-again}
 
 proper-entries : (rule : ℕ → Outcome) (k i p : ℕ) (b : List ℕ) → Bytes b → entriesChecks rule k i p b ≡ Done → Propers rule (entriesFrom k i b)

@@ -91,6 +91,9 @@ put-then {p} {r} {r′} {s} {t} {out} {out′} {out″} a b =
       holds = b .holds ∙ ap₂ (λ (k : ℕ) (o : List ℕ). over k t o) (a .ends) (a .holds) ∙ sym (over-append p s t out);
     }
 
+pub put-within : {p r : ℕ} {s out out′ : List ℕ} → Put p s out r out′ → r ≤ length out′
+put-within {p} {r} {s} {out} {out′} a = omega (arith, a .ends, ap length (a .holds) ∙ length-over p s out)
+
 pub put-none : (p : ℕ) (out : List ℕ) → Put p [] out (min p (length out)) out
 put-none p out = record { ends = omega arith; holds = sym (over-none p out) }
 

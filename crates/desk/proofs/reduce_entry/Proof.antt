@@ -1,7 +1,7 @@
 -- Found or not, fitting or not; the front of the words is lent to what reduces.
 use denote.Ref.{now}
 use mathlib.Core.Logic.{inl, inr}
-use mathlib.Core.Path.{_≡_, sym, _∙_, subst}
+use mathlib.Core.Path.{sym, _∙_, subst}
 use Prim.Native.Nat.{ℕ, _*_, _<_, _≤_}
 use lib.ListN.{length}
 use lib.Seq.{length-take-le}
@@ -14,11 +14,6 @@ use native.Mathlib.Omega.{arith}
 use borrow.Author.Needs.{needs}
 use Rattle.desk.proofs.reduce_entry.Statement.{statement}
 use Rattle.desk.proofs.reduce_entry.Tie as tie
-use Rattle.desk.proofs.reduce_entry.Reads as reads
-use Rattle.desk.proofs.reduce_entry.Lts as lts
-use Rattle.bundle.proofs.entry.Reads as entry-reads
-use Rattle.desk.proofs.reduce_fitting.Reads as reduce-fitting-reads
-use Rattle.refusals.proofs.words.Reads as words-reads
 
 entry-requires : tie.Need-entry-requires
 entry-requires c κs = search needs

@@ -5,14 +5,9 @@ use Rattle.bundle.specs.Bundle.{bothKinds, meaning}
 use Rattle.bundle.specs.Answers.{find}
 use Rattle.desk.proofs.Sound.{found-sound}
 use Rattle.desk.proofs.Fitted.{fitted}
-use native.Mathlib.Omega.{arith}
 use borrow.Author.Needs.{needs}
 use Rattle.desk.proofs.reduce_fitting.Statement.{statement}
 use Rattle.desk.proofs.reduce_fitting.Tie as tie
-use Rattle.desk.proofs.reduce_fitting.Reads as reads
-use Rattle.desk.proofs.reduce_fitting.Lts as lts
-use Rattle.bundle.proofs.unpack.Reads as unpack-reads
-use Rattle.matrix.proofs.reduce.Reads as reduce-reads
 
 unpack-requires : tie.Need-unpack-requires
 unpack-requires c κs = search needs

@@ -5,15 +5,9 @@ use Rattle.text.specs.Text.{ascii, decimal}
 use Rattle.text.specs.Put.{Put}
 use Rattle.text.proofs.Putting.{put-then}
 use Rattle.desk.specs.Desk.{refusedText}
-use native.Mathlib.Omega.{arith}
 use borrow.Author.Needs.{needs}
 use Rattle.desk.proofs.refused.Statement.{statement}
 use Rattle.desk.proofs.refused.Tie as tie
-use Rattle.desk.proofs.refused.Reads as reads
-use Rattle.desk.proofs.refused.Lts as lts
-use Rattle.refusals.proofs.number.Reads as number-reads
-use Rattle.text.proofs.bytes.Reads as bytes-reads
-use Rattle.text.proofs.decimal.Reads as decimal-reads
 
 slice-aggregate-bytes : tie.Need-slice-aggregate-bytes
 slice-aggregate-bytes c = search needs

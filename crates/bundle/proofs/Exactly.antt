@@ -3,12 +3,13 @@ use mathlib.Core.Path.{_≡_, refl, sym, ap, ap₂, _∙_}
 use mathlib.Core.Logic.{_↔_}
 use mathlib.Core.List.{List}
 use Prim.Native.Nat.{ℕ}
+use Rattle.refusals.specs.declared.Refusal.{Refusal}
 use Rattle.refusals.specs.declared.Outcome.{Outcome}
 use Rattle.refusals.specs.declared.Outcome.the-variants.{Done, Refused}
-use Rattle.bundle.specs.Bundle.{Entry, countOf, bundleChecks, entriesFrom, entriesOf, bundle, meantBy, meaning}
+use Rattle.bundle.specs.Bundle.{Entry, countOf, bundleChecks, entriesFrom, entriesOf, refused, bundle, meantBy, meaning}
 use Rattle.bundle.specs.Answers.{countEntries, countedIn}
 use Rattle.bundle.specs.declared.Counted.the-variants as counted
-use Rattle.roundtrip.proofs.FromBytes.{count-from}
+use Rattle.bundle.proofs.Meaning.{count-from}
 
 meant-by : (o : Outcome) (es es′ : List Entry) → meantBy o es ≡ bundle es′ → (o ≡ Done) × (es ≡ es′)
 meant-by Done es es′ e = (refl, cc)
@@ -35,3 +36,13 @@ exactly rule b n = (
       (t .0, sym (count-from (countOf b) 0 b) ∙ t .1),
   λ t. ap (λ (o : Outcome). countedIn (meantBy o (entriesFrom (countOf b) 0 b))) (t .0) ∙ ap counted.Entries (count-from (countOf b) 0 b ∙ t .1),
 )
+
+refused-by : (o : Outcome) (es : List Entry) (r : Refusal) → countedIn (meantBy o es) ≡ counted.Refused r → meantBy o es ≡ refused r
+unfolding countedIn
+refused-by Done es r e = cc
+refused-by (Refused x) es r e = let z : x ≡ r = cc in ap refused z
+
+-- what reading is refused with is what the bytes mean
+pub refused-means : (rule : ℕ → Outcome) (b : List ℕ) (r : Refusal) → countedIn (meaning rule b) ≡ counted.Refused r → meaning rule b ≡ refused r
+unfolding meaning
+refused-means rule b r e = refused-by (bundleChecks rule b) (entriesOf b) r e
