@@ -5,3 +5,4 @@ pub mod Columns
 pub mod Steps
 pub mod Meaning
 pub mod Exactly
+pub mod Holds

@@ -2,3 +2,5 @@
 pub mod Lines
 pub mod Entries
 pub mod Found
+pub mod Example
+pub mod Short

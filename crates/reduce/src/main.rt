@@ -6,7 +6,7 @@ fn main() {
     let n = desk::input(&mut input);
     let mut words = [0u64; 8192];
     let mut room = [0u64; 256];
-    let mut out = [0u8; 540672];
+    let mut out = [0u8; 544768];
     let end = report::whole(&input[..n], &mut words, &mut room, &mut out);
     io::write_all(libc::STDOUT_FILENO, &out[..end]);
 }

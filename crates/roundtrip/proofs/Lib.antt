@@ -3,4 +3,4 @@ pub mod FromBytes
 pub mod FromEntries
 pub mod FromLists
 pub mod SameBytes
-pub mod Holds
+pub mod Written

@@ -8,7 +8,7 @@ use native.Mathlib.Numerals.{add-one}
 use native.Mathlib.Omega.{arith}
 use lib.Pow.{shr-shr}
 use lib.ListN.{length, take, drop, getD, set, length-append, length-take, length-drop, length-set, take-append-drop, drop-of-length-le}
-use lib.Seq.{take-all, take-suc, take-suc-set, drop-set-lt, append-snoc}
+use lib.Seq.{take-at, take-all, take-suc, take-suc-set, drop-set-lt, append-snoc}
 use Rattle.gf2.specs.Rows.{bit}
 use Rattle.text.specs.Text.{bits}
 use Rattle.text.specs.Put.{over, Put}
@@ -93,6 +93,14 @@ put-then {p} {r} {r′} {s} {t} {out} {out′} {out″} a b =
 
 pub put-within : {p r : ℕ} {s out out′ : List ℕ} → Put p s out r out′ → r ≤ length out′
 put-within {p} {r} {s} {out} {out′} a = omega (arith, a .ends, ap length (a .holds) ∙ length-over p s out)
+
+-- a text that there is room for is there, whole
+pub put-all : (s out out′ : List ℕ) (r : ℕ) → Put 0 s out r out′ → length s ≤ length out → (r ≡ length s) × (take r out′ ≡ s)
+unfolding over
+put-all s out out′ r a h =
+    let e : r ≡ length s = omega (arith, a .ends, h) in
+    let whole : take (length out - 0) s ≡ s = take-all (length out - 0) s (omega arith) in
+    (e, ap (take r) (a .holds ∙ ap (λ (l : List ℕ). l ++ drop (0 + length s) out) whole) ∙ take-at s (drop (0 + length s) out) r (sym e))
 
 pub put-none : (p : ℕ) (out : List ℕ) → Put p [] out (min p (length out)) out
 put-none p out = record { ends = omega arith; holds = sym (over-none p out) }

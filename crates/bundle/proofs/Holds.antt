@@ -1,16 +1,15 @@
--- The sample is read and written as it should be, and each damaged bundle is refused as it should be. Computed by the checker.
+-- The sample is read as it should be, and each damaged bundle is refused as it should be. Computed by the checker.
 use mathlib.Core.Path.{_≡_, refl}
 use mathlib.Core.List.{[], _∷_, map}
 use Prim.Native.Nat.{_+_, _^_}
 use lib.ListN.{length}
-use Rattle.words.specs.Words.{rowsOf, flat}
-use Rattle.wire.specs.Bytes.{num, bytesOf}
-use Rattle.wire.specs.Kinds.{order, wordsAt, bytesOfWords}
+use Rattle.words.specs.Words.{rowsOf}
+use Rattle.wire.specs.Bytes.{num}
+use Rattle.wire.specs.Kinds.{order, wordsAt}
 use Rattle.refusals.specs.Checks.{narrow}
 use Rattle.bundle.specs.Bundle.{bodyWords, matrixAt, kindRule, bothKinds, badShape, bodyChecks, entryChecks, entriesChecks, bundleChecks, entryAt, entriesFrom, entriesOf, bundle, meaning}
 use Rattle.bundle.specs.Answers.{countedNumber, countEntries, countedIn}
-use Rattle.pack.specs.Encode.{headOf, contentsOf, bodyOf, bodiesOf, encode}
-use Rattle.roundtrip.specs.Sample.{sample, mixed, matrices, Example, table}
+use Rattle.bundle.specs.Sample.{sample, mixed, matrices, Example, table}
 
 pub sample-length : length sample ≡ 62
 unfolding sample
@@ -20,10 +19,6 @@ pub sample-means : meaning bothKinds sample ≡ bundle (matrices 1)
 unfolding sample matrices meaning bundleChecks entriesChecks entryChecks bodyChecks badShape kindRule matrixAt bodyWords narrow rowsOf wordsAt order num entriesOf entriesFrom entryAt
 sample-means = refl
 
-pub sample-written : encode (matrices 1) ≡ sample
-unfolding sample matrices encode contentsOf headOf bodiesOf bodyOf bytesOfWords bytesOf order flat countEntries bodyWords
-sample-written = refl
-
 -- column 0 of kind 2 has weight 2 ^ 63, and the matrix is the same
 pub mixed-words : wordsAt 1 22 2 mixed ≡ (2 ^ 63 + 2 ^ 62) ∷ (2 ^ 63) ∷ []
 unfolding mixed wordsAt order num
@@ -32,10 +27,6 @@ mixed-words = refl
 pub mixed-means : meaning bothKinds mixed ≡ bundle (matrices 2)
 unfolding mixed matrices meaning bundleChecks entriesChecks entryChecks bodyChecks badShape kindRule matrixAt bodyWords narrow rowsOf wordsAt order num entriesOf entriesFrom entryAt
 mixed-means = refl
-
-pub mixed-written : encode (matrices 2) ≡ mixed
-unfolding mixed matrices encode contentsOf headOf bodiesOf bodyOf bytesOfWords bytesOf order flat countEntries bodyWords
-mixed-written = refl
 
 pub table-holds : map (λ (e : Example). countedNumber (countedIn (meaning bothKinds (e .bytes)))) table ≡ map (λ (e : Example). e .number) table
 unfolding table meaning bundleChecks entriesChecks entryChecks bodyChecks badShape kindRule matrixAt bodyWords narrow rowsOf wordsAt order num entriesOf entriesFrom entryAt countedIn countEntries
