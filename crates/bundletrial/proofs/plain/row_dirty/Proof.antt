@@ -1,0 +1,54 @@
+-- Nothing has to hold from turn to turn.
+use Prim.Native.Nat.{_-_}
+use borrow.Author.Needs.{needs}
+use Rattle.bundletrial.proofs.plain.row_dirty.Statement.{statement}
+use Rattle.bundletrial.proofs.plain.row_dirty.Tie as tie
+
+abbrev Inv-loop : tie.InvT-loop
+Inv-loop b at kind columns r w end c₀ c = Unit {0}
+
+abbrev μ-loop : tie.MeasureT-loop
+μ-loop b at kind columns r w end c₀ c = end - c
+
+width-requires : tie.Need-width-requires Inv-loop μ-loop
+width-requires c κs = search needs
+
+product-requires : tie.Need-product-requires Inv-loop μ-loop
+product-requires c κs = search needs
+
+loop-holds : tie.Need-loop-holds Inv-loop μ-loop
+loop-holds c = search needs
+
+bit-requires : tie.Need-bit-requires Inv-loop μ-loop
+bit-requires c κs = search needs
+
+returns : tie.Need-returns Inv-loop μ-loop
+returns c = search needs
+
+add-c : tie.Need-add-c Inv-loop μ-loop
+add-c c = search needs
+
+loop-less : tie.Need-loop-less Inv-loop μ-loop
+loop-less c = search needs
+
+loop-again : tie.Need-loop-again Inv-loop μ-loop
+loop-again c = search needs
+
+returns-2 : tie.Need-returns-2 Inv-loop μ-loop
+returns-2 c = search needs
+
+pub row-dirty-spec : {M : Type 1} → statement M
+row-dirty-spec =
+    tie.close
+    (tie.spec
+    Inv-loop
+    μ-loop
+    width-requires
+    product-requires
+    loop-holds
+    bit-requires
+    returns
+    add-c
+    loop-less
+    loop-again
+    returns-2)
