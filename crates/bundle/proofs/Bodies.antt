@@ -1,11 +1,14 @@
 -- A body: its words, its rows, and what a loop over them has done.
 use mathlib.Core.Path.{_≡_, refl, sym, ap, ap₂, _∙_, subst}
-use mathlib.Core.Bool.{true, false}
+use mathlib.Core.Bool.{Bool, true, false, not}
 use mathlib.Core.List.{List, _++_, append-nil}
 use mathlib.Core.Logic.{_≢_, _↔_}
 use Prim.Native.Nat.{ℕ, _+_, _-_, _*_, _/_, _%_, _^_, _<_, _≤_}
 use native.Mathlib.Nat.{mul-le-mul-right}
 use native.Mathlib.Omega.{arith}
+use lib.Dec.{eqb}
+use borrow.Author.Tests.{eqb-true, eq-eqb}
+use Rattle.refusals.proofs.Passed.{not-false}
 use lib.ListN.{length, take, getD, set, drop-of-length-le}
 use lib.Seq.{paste, take-all}
 use mir.Val.{Fits}
@@ -48,6 +51,16 @@ module _ (kind p : ℕ) (b ws₀ ws : List ℕ) (j : ℕ) (e : ws ≡ paste ws�
   fill-done h = e ∙ paste-all ws₀ W j (length-words kind p (length ws₀) b) h
 
 -- ---- only the last word of a row can hold padding
+
+-- the answer of a test whether a word has a one there
+pub past-some : (y : ℕ) (t : Bool) → t ≡ not (eqb y 0) → t ≡ true → y ≡ 0 → ⊥
+past-some y t e h z = differ (sym h ∙ e ∙ ap not (eq-eqb y 0 z))
+  where
+    differ : true ≡ false → ⊥
+    differ q = let w : _≡_ {A = ℕ} 0 1 = cc in omega arith
+
+pub past-no : (y : ℕ) (t : Bool) → t ≡ not (eqb y 0) → t ≡ false → y ≡ 0
+past-no y t e h = eqb-true y 0 (not-false (eqb y 0) (sym e ∙ h))
 
 -- it lies inside the body
 pub last-inside : (i rows columns w p l : ℕ) → i < rows → w ≡ wordsOf columns → 0 < columns → p + 8 * bodyWords rows columns ≤ l → p + 8 * (i * w + (w - 1)) + 8 ≤ l

@@ -1,6 +1,8 @@
 // Numbers and words in bytes, and a body's padding.
 ghost use mathlib.Core.Path.{_≡_};
-ghost use Prim.Native.Nat.{_+_, _*_, _%_, _≤_, _<_};
+ghost use mathlib.Core.Bool.{not};
+ghost use Prim.Native.Nat.{_+_, _*_, _/_, _%_, _^_, _≤_, _<_};
+ghost use lib.Dec.{eqb};
 ghost use lib.ListN.{length};
 ghost use Rattle.refusals.specs.Checks.{narrow};
 ghost use Rattle.wire.specs.Bytes.{num};
@@ -62,6 +64,14 @@ pub(crate) fn fill(b: &[u8], kind: usize, at: usize, words: &mut [u64])
     }
 }
 
+// whether a word of a body has a one past its first s columns
+fn is_past(b: &[u8], kind: usize, at: usize, s: usize) -> bool
+    requires { ⌜ at + 8 ≤ length (now b) ⌝ }
+    ensures { λ r. ⌜ r ≡ not (eqb (order kind (num 8 at (now (b .entry))) / 2 ^ s) 0) ⌝ }
+{
+    wire::past(kind, number(b, at, 8), s)
+}
+
 fn odd_bits(columns: usize) -> usize
     ensures { λ s. ⌜ s ≡ columns % 64 ⌝ }
 {
@@ -80,7 +90,7 @@ pub(crate) fn is_clean(b: &[u8], kind: usize, at: usize, rows: usize, columns: u
     let w = refusals::words(columns);
     let mut i = 0;
     while i < rows {
-        if word(b, kind, at + 8 * (i * w + (w - 1))) >> s != 0 {
+        if is_past(b, kind, at + 8 * (i * w + (w - 1)), s) {
             return false;
         }
         i += 1;

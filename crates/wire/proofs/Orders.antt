@@ -1,18 +1,22 @@
 -- Words of a kind in bytes: how many, how large, and that they are read back as they were written.
+use mathlib.Core.Logic.{_↔_}
 use mathlib.Core.Path.{_≡_, refl, sym, ap, ap₂, _∙_, subst}
-use mathlib.Core.Bool.{Bool, true, false, cond}
+use mathlib.Core.Bool.{Bool, true, false, not, cond}
 use mathlib.Core.List.{List, [], _∷_, _++_, append-assoc}
-use Prim.Native.Nat.{ℕ, zero, suc, _+_, _-_, _*_, _^_, _<_, _≤_}
+use Prim.Native.Nat.{ℕ, zero, suc, _+_, _-_, _*_, _/_, _%_, _^_, _<_, _≤_}
 use native.Mathlib.Decide.{decLt}
+use native.Mathlib.Nat.{lt-of-lt-of-le, div-eq-of-lt, suc-ne-zero}
 use native.Mathlib.Omega.{arith}
 use lib.Dec.{lit<, eqb}
+use lib.Pow.{pow-mono}
+use borrow.Author.Tests.{eq-eqb, ne-eqb}
 use lib.ListN.{length, take, drop, getD, length-append, List·getD-eq-default}
 use lib.Seq.{take-add, drop-drop}
 use Rattle.words.specs.Words.{Fit}
 use Rattle.wire.specs.Bytes.{Bytes, num, bytesOf}
 use Rattle.wire.specs.Kinds.{reversed, order, wordsAt, bytesOfWords}
 use Rattle.wire.proofs.Bytes.{num-lt, length-bytes, bytes-num, num-at}
-use Rattle.wire.proofs.Reversal.{reversed-lt, reversed-twice}
+use Rattle.wire.proofs.Reversal.{past-reversed, reversed-lt, reversed-twice}
 
 pub order-lt : (kind x : ℕ) → x < 2 ^ 64 → order kind x < 2 ^ 64
 unfolding order
@@ -79,3 +83,27 @@ words-at kind q (x ∷ ws) pre rest f e =
     ap₂ (λ (a : ℕ) (z : List ℕ). a ∷ z)
     (ap (λ (l : List ℕ). order kind (num 8 q l)) r ∙ ap (order kind) (num-at 8 q (order kind x) pre R e (order-lt kind x (f 0))) ∙ order-twice kind x (f 0))
     (ap (wordsAt kind (q + 8) (length ws)) (r ∙ sym (append-assoc pre X R)) ∙ words-at kind (q + 8) ws (pre ++ X) rest (λ i. f (suc i)) l)
+
+-- ---- a one past the first s columns of a word
+
+order-two : (kind x : ℕ) → kind ≡ 2 → order kind x ≡ reversed 64 x
+unfolding order
+order-two kind x e = ap (λ (t : Bool). cond t (reversed 64 x) x) (eq-eqb kind 2 e)
+
+order-one : (kind x : ℕ) → (kind ≡ 2 → ⊥) → order kind x ≡ x
+unfolding order
+order-one kind x ne = ap (λ (t : Bool). cond t (reversed 64 x) x) (ne-eqb kind 2 ne)
+
+both-zero : (a b : ℕ) → (a ≡ 0) ↔ (b ≡ 0) → eqb a 0 ≡ eqb b 0
+both-zero zero b e = sym (eq-eqb b 0 (e .0 refl))
+both-zero (suc a) b e = ne-eqb (suc a) 0 (suc-ne-zero a) ∙ sym (ne-eqb b 0 (λ z. suc-ne-zero a (e .1 z)))
+
+module _ (kind x s : ℕ) where
+  pub past-none : x < 2 ^ 64 → 64 ≤ s → false ≡ not (eqb (order kind x / 2 ^ s) 0)
+  past-none h l = sym (ap not (eq-eqb (order kind x / 2 ^ s) 0 (div-eq-of-lt (lt-of-lt-of-le (order-lt kind x h) (pow-mono {i = 64} {j = s} l)))))
+
+  pub past-two : kind ≡ 2 → s < 64 → not (eqb (x * 2 ^ s % 2 ^ 64) 0) ≡ not (eqb (order kind x / 2 ^ s) 0)
+  past-two e h = ap not (both-zero (x * 2 ^ s % 2 ^ 64) (reversed 64 x / 2 ^ s) (past-reversed x s h)) ∙ sym (ap (λ (y : ℕ). not (eqb (y / 2 ^ s) 0)) (order-two kind x e))
+
+  pub past-one : (kind ≡ 2 → ⊥) → not (eqb (x / 2 ^ s) 0) ≡ not (eqb (order kind x / 2 ^ s) 0)
+  past-one ne = sym (ap (λ (y : ℕ). not (eqb (y / 2 ^ s) 0)) (order-one kind x ne))

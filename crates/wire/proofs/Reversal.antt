@@ -1,11 +1,12 @@
 -- Six exchanges of neighbours reverse 64 bits; what a reversed word holds, and that reversing twice gives the word back.
+use mathlib.Core.Logic.{_↔_}
 use mathlib.Core.Path.{_≡_, refl, sym, ap, ap₂, _∙_, subst}
 use Prim.Native.Nat.{ℕ, zero, suc, _+_, _-_, _*_, _/_, _%_, _^_, _<_, _≤_}
-use native.Mathlib.Nat.{lt-of-lt-of-le, mod-lt, add-mul, mul-assoc, mul-comm, zero-mul, zero-add, add-comm, suc-add, suc-mul, mod-eq-of-lt}
+use native.Mathlib.Nat.{lt-of-lt-of-le, mod-lt, add-mul, mul-assoc, mul-comm, zero-mul, zero-add, add-comm, suc-add, suc-mul, mod-eq-of-lt, mul-mod-left, add-zero}
 use native.Mathlib.Omega.{arith}
 use lib.Bits.{bitAnd, and-block, and-mask, and-zero-r}
 use lib.Dec.{lit<}
-use lib.Pow.{pow-add, pow-pos, pow-mono, split, high, low, shr-shr, mod-mod-pow, ones-lt}
+use lib.Pow.{pow-add, pow-pos, pow-mono, split, high, low, shr-shr, mod-mod-pow, ones-lt, mod-pow-add, shl-shr}
 use lib.Arith.{digits-lt}
 use Rattle.wire.specs.Kinds.{reversed}
 use Rattle.wire.specs.Swaps.{swapPairs, maskOf}
@@ -216,3 +217,61 @@ pub low-end : (x s : ℕ) → s ≤ 64 → reversed 64 x / 2 ^ s ≡ reversed (6
 low-end x s h =
     let e : 64 - s + s ≡ 64 = omega arith in
     ap (λ (j : ℕ). reversed j x / 2 ^ s) (sym e) ∙ ap (λ (y : ℕ). y / 2 ^ s) (reversed-add (64 - s) s x) ∙ high (reversed (64 - s) x) s (reversed-lt s (x / 2 ^ (64 - s)))
+
+-- ---- where the lowest k bits are zero, so are they in reverse
+
+halves : (k x : ℕ) → x % 2 ^ suc k ≡ x / 2 % 2 ^ k * 2 + x % 2
+halves k x = ap (λ (e : ℕ). x % 2 ^ e) (one k) ∙ mod-pow-add x k 1
+  where
+    one : (k : ℕ) → suc k ≡ k + 1
+    one k = omega arith
+
+reversed-none : (k x : ℕ) → reversed k x ≡ 0 → x % 2 ^ k ≡ 0
+unfolding reversed
+reversed-none zero x e = omega arith
+reversed-none (suc k) x e =
+    let low : x % 2 ≡ 0 = digit (x % 2) (2 ^ k) (reversed k (x / 2)) (pow-pos k) e in
+    let rest : reversed k (x / 2) ≡ 0 = over (x % 2 * 2 ^ k) (reversed k (x / 2)) e in
+    halves k x ∙ both (x / 2 % 2 ^ k) (x % 2) (reversed-none k (x / 2) rest) low
+  where
+    over : (a b : ℕ) → a + b ≡ 0 → b ≡ 0
+    over a b e = omega arith
+
+    both : (a b : ℕ) → a ≡ 0 → b ≡ 0 → a * 2 + b ≡ 0
+    both a b p q = omega arith
+
+    digit : (d p r : ℕ) → 0 < p → d * p + r ≡ 0 → d ≡ 0
+    digit zero p r h e = refl
+    digit (suc d) p r h e = absurd (omega (arith, suc-mul d p))
+
+none-reversed : (k x : ℕ) → x % 2 ^ k ≡ 0 → reversed k x ≡ 0
+unfolding reversed
+none-reversed zero x e = refl
+none-reversed (suc k) x e =
+    let s : x / 2 % 2 ^ k * 2 + x % 2 ≡ 0 = sym (halves k x) ∙ e in
+    let low : x % 2 ≡ 0 = second (x / 2 % 2 ^ k) (x % 2) s in
+    ap₂ (λ (d r : ℕ). d * 2 ^ k + r) low (none-reversed k (x / 2) (first (x / 2 % 2 ^ k) (x % 2) s)) ∙ omega (arith, zero-mul (2 ^ k))
+  where
+    first : (a b : ℕ) → a * 2 + b ≡ 0 → a ≡ 0
+    first a b e = omega arith
+
+    second : (a b : ℕ) → a * 2 + b ≡ 0 → b ≡ 0
+    second a b e = omega arith
+
+-- a word moved up by s keeps its lowest 64 - s bits
+moved : (x s : ℕ) → s < 64 → x * 2 ^ s % 2 ^ 64 ≡ x % 2 ^ (64 - s) * 2 ^ s
+moved x s h =
+    let e : 64 ≡ 64 - s + s = omega arith in
+    ap (λ (k : ℕ). x * 2 ^ s % 2 ^ k) e ∙ mod-pow-add (x * 2 ^ s) (64 - s) s
+    ∙ ap₂ (λ (a b : ℕ). a % 2 ^ (64 - s) * 2 ^ s + b) (shl-shr x s) (mul-mod-left x (2 ^ s)) ∙ add-zero (x % 2 ^ (64 - s) * 2 ^ s)
+
+-- so a one past the first s columns of kind 2 shows when the word is moved up
+pub past-reversed : (x s : ℕ) → s < 64 → (x * 2 ^ s % 2 ^ 64 ≡ 0) ↔ (reversed 64 x / 2 ^ s ≡ 0)
+past-reversed x s h = (
+  λ z. low-end x s (omega arith) ∙ none-reversed (64 - s) x (divided (x % 2 ^ (64 - s)) (2 ^ s) (pow-pos s) (sym (moved x s h) ∙ z)),
+  λ z. moved x s h ∙ ap (λ (r : ℕ). r * 2 ^ s) (reversed-none (64 - s) x (sym (low-end x s (omega arith)) ∙ z)) ∙ zero-mul (2 ^ s),
+)
+  where
+    divided : (a p : ℕ) → 0 < p → a * p ≡ 0 → a ≡ 0
+    divided zero p h e = refl
+    divided (suc a) p h e = absurd (omega (arith, suc-mul a p))

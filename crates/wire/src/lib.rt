@@ -1,6 +1,8 @@
 // The order of bits that a kind gives a word.
 ghost use mathlib.Core.Path.{_≡_};
-ghost use Prim.Native.Nat.{_+_, _*_, _≤_};
+ghost use mathlib.Core.Bool.{not};
+ghost use Prim.Native.Nat.{_+_, _*_, _/_, _^_, _≤_};
+ghost use lib.Dec.{eqb};
 ghost use Rattle.wire.specs.Kinds.{reversed, order};
 ghost use Rattle.wire.specs.Swaps.{swapPairs, maskOf};
 
@@ -22,6 +24,19 @@ fn reverse(x: u64) -> u64
     let d = swap_pairs(c, 0x00ff00ff00ff00ff, 4, 8);
     let e = swap_pairs(d, 0x0000ffff0000ffff, 2, 16);
     swap_pairs(e, 0x00000000ffffffff, 1, 32)
+}
+
+// whether a word of a kind has a one past its first s columns
+pub fn past(kind: usize, x: u64, s: usize) -> bool
+    ensures { λ r. ⌜ r ≡ not (eqb (order kind x / 2 ^ s) 0) ⌝ }
+{
+    if 64 <= s {
+        return false;
+    }
+    if kind == 2 {
+        return x << s != 0;
+    }
+    x >> s != 0
 }
 
 // a word of a kind in the order of kind 1, and back

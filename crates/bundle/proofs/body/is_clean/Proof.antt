@@ -1,5 +1,5 @@
 -- Only a row's last word can hold padding: the loop has seen that of each row passed. The measure is the rows left.
-use mathlib.Core.Path.{sym, _∙_}
+use mathlib.Core.Path.{refl, sym, _∙_}
 use denote.Ref.{now}
 use Prim.Native.Nat.{ℕ, _-_, _^_, _<_, _≤_}
 use native.Mathlib.Nat.{lt-of-lt-of-le}
@@ -7,7 +7,7 @@ use borrow.Author.Count.{below-more, below-none}
 use lib.ListN.{length}
 use Rattle.gf2.specs.Rows.{row}
 use Rattle.bundle.specs.Bundle.{matrixAt}
-use Rattle.bundle.proofs.Bodies.{last-inside, last-word, last-full, all-clean, not-clean}
+use Rattle.bundle.proofs.Bodies.{past-some, past-no, last-inside, last-word, last-full, all-clean, not-clean}
 use borrow.Author.Needs.{needs}
 use native.Mathlib.Omega.{arith}
 use Rattle.bundle.proofs.body.is_clean.Statement.{statement}
@@ -35,55 +35,52 @@ words-requires c κs = search needs
 loop-holds : tie.Need-loop-holds Inv-loop μ-loop
 loop-holds c = (below-none _, search needs)
 
-mul-word : tie.Need-mul-word Inv-loop μ-loop
-mul-word c =
+mul-is-past : tie.Need-mul-is-past Inv-loop μ-loop
+mul-is-past c =
     let l = c .before in
     let w = l .before .words in
     let s = l .before .before .before .before .before in
     let g = s .args in
     omega (arith, last-inside (l .loop .i) (g .rows) (g .columns) (w .result) (g .at) (length (now (g .b))) (c .loop-test .taken) (w .ensures) (s .pre .1) (s .pre .3), s .pre .1, w .ensures)
 
-sub-word : tie.Need-sub-word Inv-loop μ-loop
-sub-word c =
+sub-is-past : tie.Need-sub-is-past Inv-loop μ-loop
+sub-is-past c =
     let l = c .before in
     let w = l .before .words in
     let s = l .before .before .before .before .before in
     omega (arith, s .pre .1, w .ensures)
 
-add-word : tie.Need-add-word Inv-loop μ-loop
-add-word c =
+add-is-past : tie.Need-add-is-past Inv-loop μ-loop
+add-is-past c =
     let l = c .before in
     let w = l .before .words in
     let s = l .before .before .before .before .before in
     let g = s .args in
     omega (arith, last-inside (l .loop .i) (g .rows) (g .columns) (w .result) (g .at) (length (now (g .b))) (c .loop-test .taken) (w .ensures) (s .pre .1) (s .pre .3), s .pre .1, w .ensures)
 
-mul-word-2 : tie.Need-mul-word-2 Inv-loop μ-loop
-mul-word-2 c =
+mul-is-past-2 : tie.Need-mul-is-past-2 Inv-loop μ-loop
+mul-is-past-2 c =
     let l = c .before in
     let w = l .before .words in
     let s = l .before .before .before .before .before in
     let g = s .args in
     omega (arith, last-inside (l .loop .i) (g .rows) (g .columns) (w .result) (g .at) (length (now (g .b))) (c .loop-test .taken) (w .ensures) (s .pre .1) (s .pre .3), s .pre .1, w .ensures)
 
-add-word-2 : tie.Need-add-word-2 Inv-loop μ-loop
-add-word-2 c =
+add-is-past-2 : tie.Need-add-is-past-2 Inv-loop μ-loop
+add-is-past-2 c =
     let l = c .before in
     let w = l .before .words in
     let s = l .before .before .before .before .before in
     let g = s .args in
     omega (arith, last-inside (l .loop .i) (g .rows) (g .columns) (w .result) (g .at) (length (now (g .b))) (c .loop-test .taken) (w .ensures) (s .pre .1) (s .pre .3), s .pre .1, w .ensures)
 
-word-requires : tie.Need-word-requires Inv-loop μ-loop
-word-requires c κs =
+is-past-requires : tie.Need-is-past-requires Inv-loop μ-loop
+is-past-requires c κs =
     let l = c .before in
     let w = l .before .words in
     let s = l .before .before .before .before .before in
     let g = s .args in
     last-inside (l .loop .i) (g .rows) (g .columns) (w .result) (g .at) (length (now (g .b))) (c .loop-test .taken) (w .ensures) (s .pre .1) (s .pre .3)
-
-shr-if2 : tie.Need-shr-if2 Inv-loop μ-loop
-shr-if2 c = search needs
 
 returns-2 : tie.Need-returns-2 Inv-loop μ-loop
 returns-2 c =
@@ -95,8 +92,8 @@ returns-2 c =
     let i = l .loop .i in
     let h : i < g .rows = c .before .before .loop-test .taken in
     not-clean (g .kind) (g .at) (g .rows) (g .columns) (now (g .b)) i h
-    (λ n. c .if2 .taken (last-word (g .kind) (g .at) (g .rows) (g .columns) (now (g .b)) (λ j. l .before .before .before .before .shared-slice-known .given j .fits)
-    i (w .result) (o .result) (c .before .word .result) h (w .ensures) (o .ensures) (l .before .before .if1 .left) (c .before .word .ensures) .0 n))
+    (λ n. past-some _ _ (c .before .is-past .ensures) (c .if2 .taken) (last-word (g .kind) (g .at) (g .rows) (g .columns) (now (g .b)) (λ j. l .before .before .before .before .shared-slice-known .given j .fits)
+    i (w .result) (o .result) _ h (w .ensures) (o .ensures) (l .before .before .if1 .left) refl .0 n))
 
 add-i : tie.Need-add-i Inv-loop μ-loop
 add-i c = search needs
@@ -115,7 +112,7 @@ loop-again c =
     let h : i < g .rows = c .before .before .loop-test .taken in (
       below-more (λ (k : ℕ). row (matrixAt (g .kind) (g .at) (g .rows) (g .columns) (now (g .b))) k < 2 ^ g .columns) i (l .loop .inv .0)
           (last-word (g .kind) (g .at) (g .rows) (g .columns) (now (g .b)) (λ j. l .before .before .before .before .shared-slice-known .given j .fits)
-          i (w .result) (o .result) (c .before .word .result) h (w .ensures) (o .ensures) (l .before .before .if1 .left) (c .before .word .ensures) .1 (c .if2 .left)),
+          i (w .result) (o .result) _ h (w .ensures) (o .ensures) (l .before .before .if1 .left) refl .1 (past-no _ _ (c .before .is-past .ensures) (c .if2 .left))),
       search needs,
     )
 
@@ -136,13 +133,12 @@ is-clean-spec =
     returns
     words-requires
     loop-holds
-    mul-word
-    sub-word
-    add-word
-    mul-word-2
-    add-word-2
-    word-requires
-    shr-if2
+    mul-is-past
+    sub-is-past
+    add-is-past
+    mul-is-past-2
+    add-is-past-2
+    is-past-requires
     returns-2
     add-i
     loop-less
