@@ -10,7 +10,7 @@ use lib.Seq.{drop-drop, length-take-le, getD-take, ext-getD}
 use Rattle.words.specs.Words.{wordsOf, Fit, value, rowsOf}
 use Rattle.words.proofs.Parts.{part-same}
 use Rattle.words.proofs.Value.{fit-drop}
-use Rattle.words.proofs.Rows.{row-ends, length-rows, getD-rows}
+use Rattle.words.proofs.Rows.{row-ends, length-rows, getD-rows, rows-take}
 use Rattle.words.proofs.Flat.{flat-rows}
 use Rattle.wire.specs.Kinds.{bytesOfWords}
 use Rattle.wire.proofs.Orders.{length-words-bytes}
@@ -37,17 +37,6 @@ pub body-same : (r c : ℕ) {w : ℕ} → w ≡ wordsOf c → r * w ≡ bodyWord
 unfolding bodyWords
 body-same r c e = ap (λ (x : ℕ). r * x) e
 
--- the rows depend on their own words alone
-rows-take : (w n : ℕ) (m : List ℕ) → n * w ≤ length m → rowsOf w n (take (n * w) m) ≡ rowsOf w n m
-rows-take w n m l =
-    let t : List ℕ = take (n * w) m in
-    let lt : length t ≡ n * w = length-take-le (n * w) m l in
-    ext-getD 0 (rowsOf w n t) (rowsOf w n m) (length-rows w n t ∙ sym (length-rows w n m))
-    (λ i h. let hi : i < n = subst (λ (x : ℕ). i < x) (length-rows w n t) h in
-    let e : i * w + w ≤ n * w = row-ends i n w hi in
-    getD-rows w n t i hi ∙ ap value (part-same t m (i * w) w (omega arith) (omega arith) (λ j k. getD-take (n * w) m (i * w + j) 0 (omega arith)))
-    ∙ sym (getD-rows w n m i hi))
-
 -- an entry whose words begin at word a of those given
 pub record Met (ws : List ℕ) (a r c : ℕ) : Type 0 where
   pub shape : Shaped r c
@@ -65,7 +54,7 @@ module _ (ws : List ℕ) (a r c : ℕ) {w : ℕ} (h : a + bodyWords r c ≤ leng
       let l : n ≤ length (drop a ws) = omega (arith, body-fits, length-drop a ws, e) in
       ap (λ (x : ℕ). holdsRows r c (take x (drop a ws))) (z ∙ e)
       ∙ sym (holds-narrow r c (take n (drop a ws)) (omega (arith, length-take-le n (drop a ws) l)))
-      ∙ ap (narrow c) (rows-take (wordsOf c) r (drop a ws) l)
+      ∙ ap (narrow c) (rows-take (wordsOf c) r (drop a ws))
 
 -- ---- kinds and shapes
 

@@ -9,8 +9,8 @@ use lib.Dec.{lit<}
 use lib.ListN.{length, getD, take, drop, length-append, length-drop}
 use lib.Seq.{drop-at, take-append-le, drop-append-le}
 use Rattle.words.specs.Words.{Fit, wordsOf, value, rowsOf, flat}
-use Rattle.words.proofs.Rows.{length-rows}
-use Rattle.words.proofs.Flat.{length-flat, fit-flat}
+use Rattle.words.proofs.Rows.{length-rows, rows-front}
+use Rattle.words.proofs.Flat.{length-flat, fit-flat, fit-append}
 use Rattle.wire.specs.Bytes.{Bytes}
 use Rattle.wire.specs.Kinds.{wordsAt}
 use Rattle.wire.proofs.Bytes.{num-lt}
@@ -59,20 +59,6 @@ record Lists (rule : ℕ → Outcome) (es : List Entry) : Type 0 where
   pub clean : allNarrow es ≡ true
   pub small : (i : ℕ) → getD (kindsOf es) i 0 < 65536
   pub fit : Fit (wordsOfAll es)
-
--- rows are read from the front of the words alone
-rows-front : (w n : ℕ) (x y : List ℕ) → n * w ≤ length x → rowsOf w n (x ++ y) ≡ rowsOf w n x
-unfolding rowsOf
-rows-front w zero x y h = refl
-rows-front w (suc n) x y h =
-    let k : suc n * w ≡ w + n * w = omega (arith, suc-mul n w) in
-    ap₂ (λ (a c : List ℕ). value a ∷ rowsOf w n c) (take-append-le w x y (omega arith)) (drop-append-le w x y (omega arith))
-    ∙ ap (λ (L : List ℕ). value (take w x) ∷ L) (rows-front w n (drop w x) y (omega (arith, length-drop w x)))
-
-fit-append : (x y : List ℕ) → Fit x → Fit y → Fit (x ++ y)
-fit-append [] y f g i = g i
-fit-append (a ∷ x) y f g zero = f 0
-fit-append (a ∷ x) y f g (suc i) = fit-append x y (λ j. f (suc j)) g i
 
 small-cons : (k : ℕ) (ks : List ℕ) → k < 65536 → ((i : ℕ) → getD ks i 0 < 65536) → (i : ℕ) → getD (k ∷ ks) i 0 < 65536
 small-cons k ks h f zero = h

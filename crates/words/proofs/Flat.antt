@@ -19,7 +19,7 @@ length-flat w (v ∷ M) =
     length-append (firstWords w v) (flat w M) ∙ ap₂ _+_ (length-first w v) (length-flat w M)
     ∙ omega (arith, suc-mul (length M) w)
 
-fit-append : (x y : List ℕ) → Fit x → Fit y → Fit (x ++ y)
+pub fit-append : (x y : List ℕ) → Fit x → Fit y → Fit (x ++ y)
 fit-append [] y f g i = g i
 fit-append (a ∷ x) y f g zero = f 0
 fit-append (a ∷ x) y f g (suc i) = fit-append x y (λ j. f (suc j)) g i

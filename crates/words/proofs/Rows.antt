@@ -8,7 +8,7 @@ use native.Mathlib.Decide.{decLt, ℕ-discrete}
 use native.Mathlib.Omega.{arith}
 use lib.Bits.{xor-zero-r}
 use lib.ListN.{length, getD, take, drop, set, length-set, length-drop, length-append}
-use lib.Seq.{paste, ext-getD, getD-set-same, getD-set-other, set-getD, set-set, length-paste, length-take-le, take-all, take-nil, take-add, take-take, take-append-le, drop-drop}
+use lib.Seq.{paste, ext-getD, getD-set-same, getD-set-other, set-getD, set-set, length-paste, length-take-le, take-all, take-nil, take-add, take-take, take-append-le, drop-append-le, drop-drop}
 use Rattle.gf2.specs.Rows.{bit, _⊕_, row, part, swapped, pick}
 use Rattle.gf2.proofs.Bits.{bit-lt}
 use Rattle.words.specs.Words.{wordsOf, Fit, value, rowsOf, xors, Apart}
@@ -51,7 +51,7 @@ drop-take (suc a) b [] = ap (drop (suc a)) (take-nil {A = ℕ} (suc a + b)) ∙ 
 drop-take (suc a) b (x ∷ l) = ap (λ (k : ℕ). drop (suc a) (take k (x ∷ l))) (suc-add a b) ∙ drop-take a b l
 
 -- the rows depend on the first n * w words alone
-rows-take : (w n : ℕ) (m : List ℕ) → rowsOf w n (take (n * w) m) ≡ rowsOf w n m
+pub rows-take : (w n : ℕ) (m : List ℕ) → rowsOf w n (take (n * w) m) ≡ rowsOf w n m
 unfolding rowsOf
 rows-take w zero m = refl
 rows-take w (suc n) m =
@@ -59,6 +59,15 @@ rows-take w (suc n) m =
     ap (λ (k : ℕ). value (take w (take k m)) ∷ rowsOf w n (drop w (take k m))) e
     ∙ ap₂ (λ (x y : List ℕ). value x ∷ rowsOf w n y) (take-take w (w + n * w) m (omega arith)) (drop-take w (n * w) m)
     ∙ ap (λ (l : List ℕ). value (take w m) ∷ l) (rows-take w n (drop w m))
+
+-- rows at the front of longer words
+pub rows-front : (w n : ℕ) (x y : List ℕ) → n * w ≤ length x → rowsOf w n (x ++ y) ≡ rowsOf w n x
+unfolding rowsOf
+rows-front w zero x y h = refl
+rows-front w (suc n) x y h =
+    let k : suc n * w ≡ w + n * w = omega (arith, suc-mul n w) in
+    ap₂ (λ (a c : List ℕ). value a ∷ rowsOf w n c) (take-append-le w x y (omega arith)) (drop-append-le w x y (omega arith))
+    ∙ ap (λ (L : List ℕ). value (take w x) ∷ L) (rows-front w n (drop w x) y (omega (arith, length-drop w x)))
 
 -- the same rows are the same words
 pub rows-one : (w n : ℕ) (a b : List ℕ) → Fit a → Fit b → n * w ≤ length a → n * w ≤ length b → rowsOf w n a ≡ rowsOf w n b → take (n * w) a ≡ take (n * w) b
