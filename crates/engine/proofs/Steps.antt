@@ -284,6 +284,9 @@ module _ (n c k x base s : ℕ) (M h o cols : List ℕ) (S : Search n c k x base
         here j b l (yes e) = rw (e, getD-set-same cols (base + s) (c + x) 0 (omega (arith, S .whole))) (omega arith)
         here j b l (no m) = rw (getD-set-other cols (base + s) j (c + x) 0 m) (S .here j b (omega arith))
 
+    pub search-taken : Search n c k (x + 1) base (s + 1) N₃ (set h i (getD h (base + s) 0)) o₃ (set cols (base + s) (c + x)) × SameRowSpace M N₃
+    search-taken = (search-take, search-same)
+
 -- no pivot yet: rows have the bits that they will have
 pub search-start : (n c k base : ℕ) (M h o cols : List ℕ) → length M ≡ n → Stage n c base M cols → n ≤ length h → n ≤ length o
     → ((i : ℕ) → base ≤ i → i < n → getD h i 0 ≡ windowBits c k (row M i)) → ((i : ℕ) → base ≤ i → i < n → getD o i 0 ≡ getD h i 0) → ((i : ℕ) → i < base → getD o i 0 ≡ 0)

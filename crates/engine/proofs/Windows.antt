@@ -1,6 +1,6 @@
 -- A window: once its rows are cleared the matrix is what the search foresaw. All windows: after the last the matrix is reduced, and the pivots and additions are its own.
 use mathlib.Core.Path.{_≡_, refl, sym, ap, ap₂, _∙_, subst}
-use mathlib.Core.Logic.{_⊎_, inl, inr}
+use mathlib.Core.Logic.{_≢_, _⊎_, inl, inr}
 use mathlib.Core.List.{List, _++_}
 use Prim.Native.Nat.{ℕ, zero, suc, _+_, _-_, _*_, _^_, _<_, _≤_}
 use native.Mathlib.Decide.{decLt}
@@ -29,7 +29,7 @@ use Rattle.words.specs.Words.{rowsOf}
 use Rattle.words.proofs.Parts.{length-part, part-same, paste-before, drop-past}
 use Rattle.words.proofs.Rows.{row-ends, rows-past}
 use Rattle.engine.proofs.Sums.{row-put}
-use Rattle.engine.specs.Stage.{rowAt, putRow, Stage, Search, Marks, Numbers, cleared, Windowed, Passed}
+use Rattle.engine.specs.Stage.{Sizes, rowAt, putRow, Applies, AppliesIn, Stage, Search, Marks, Numbers, cleared, Windowed, Passed}
 
 -- ---- one window
 
@@ -234,6 +234,33 @@ pub first-past : (w k base : ℕ) (t m t′ : List ℕ) → 2 ^ 1 * w ≤ 2 ^ k 
 first-past w k base t m t′ h ht hm e =
     ap (drop (2 ^ k * w)) e ∙ drop-past t (1 * w) (rowAt base w m) w (2 ^ k * w) (omega arith) (omega arith) (omega (arith, length-part (base * w) w m hm))
 
+-- what clearing by the table needs once a window's search has found r pivots, and what it leaves past the room for the table
+module _ (w n c k base r : ℕ) (m m₁ t t₁ h o cols : List ℕ) (z : Sizes w n (length m)) (lm : length m₁ ≡ length m) (hk : k ≤ 8) (ht : 2 ^ k * w ≤ length t) (S : Search n c k k base r (rowsOf w n m₁) h o cols) (hr : r ≢ 0)
+    (e : t₁ ≡ putRow t 1 w (rowAt base w m₁)) where
+  some-pivot : 0 < r
+  some-pivot = omega arith
+
+  base-fits : base * w + w ≤ length m₁
+  base-fits = omega (arith, z .fits, lm, row-ends base n w (omega (arith, S .room, some-pivot)))
+
+  two-rows : 2 ^ 1 * w ≤ 2 ^ k * w
+  two-rows = table-room 1 k w (omega (arith, S .few, some-pivot))
+
+  pub window-applies : (h₁ : List ℕ) → length t₁ ≡ length t → length h₁ ≡ length h → ((i : ℕ) → i < n → getD h₁ i 0 < 2 ^ r) → Applies w n base r m₁ t₁ h₁
+  window-applies h₁ lt lh small = record {
+    sizes = record { fits = omega (arith, z .fits, lm); narrow = z .narrow; few = z .few };
+    rows = S .room;
+    some = some-pivot;
+    most = omega (arith, S .few, hk);
+    table = omega (arith, lt, ht, table-room r k w (S .few));
+    bytes = omega (arith, lh, S .long-h);
+    small = small;
+    first = window-first w base t m₁ t₁ (omega (arith, ht, two-rows)) base-fits e;
+  }
+
+  pub window-rest : (t₂ : List ℕ) → drop (2 ^ r * w) t₂ ≡ drop (2 ^ r * w) t₁ → drop (2 ^ k * w) t₂ ≡ drop (2 ^ k * w) t
+  window-rest t₂ rest = drop-more (2 ^ r * w) (2 ^ k * w) t₂ t₁ (table-room r k w (S .few)) rest ∙ first-past w k base t m₁ t₁ two-rows ht base-fits e
+
 -- ---- matrix and table in one room: n rows, and a or b behind them
 
 pub room-less : (w n a b len : ℕ) → a ≤ b → (n + b) * w ≤ len → (n + a) * w ≤ len
@@ -278,3 +305,54 @@ room-first-past w n b base m m′ h k l e =
 pub table-small : (r : ℕ) → r ≤ 8 → tableAdditions r ≤ 255
 unfolding tableAdditions
 table-small r h = omega (arith, pow-small r h)
+
+-- the same of a window as over two slices
+module _ (w n c k base r : ℕ) (m m₁ h o cols : List ℕ) (z : Sizes w (n + 2 ^ k) (length m)) (lm : length m₁ ≡ length m) (hk : k ≤ 8) (S : Search n c k k base r (rowsOf w n m₁) h o cols) (hr : r ≢ 0) where
+  base-below : base < n
+  base-below = omega (arith, S .room)
+
+  two-more : 2 ^ 1 ≤ 2 ^ k
+  two-more = pow-mono {i = 1} {j = k} (omega (arith, S .few))
+
+  long-room : (n + 2) * w ≤ length m₁
+  long-room = room-less w n 2 (2 ^ k) (length m₁) two-more (omega (arith, z .fits, lm))
+
+  pub room-starts : Sizes w (n + 2) (length m₁) × (base < n)
+  room-starts = (record { fits = long-room; narrow = z .narrow; few = omega (arith, z .few, two-more) }, base-below)
+
+  module _ (m₂ : List ℕ) (e : m₂ ≡ putRow m₁ (n + 1) w (rowAt base w m₁)) where
+    pub room-same : rowsOf w n m₂ ≡ rowsOf w n m₁
+    room-same = room-first w n base m₁ m₂ base-below long-room e .1
+
+    pub room-applies : (h₁ : List ℕ) → length m₂ ≡ length m₁ → length h₁ ≡ length h → ((i : ℕ) → i < n → getD h₁ i 0 < 2 ^ r) → AppliesIn w n base r m₂ h₁
+    room-applies h₁ l₂ lh small =
+        let more : 2 ^ r ≤ 2 ^ k = pow-mono {i = r} {j = k} (S .few) in
+        record {
+          sizes = record { fits = room-less w n (2 ^ r) (2 ^ k) (length m₂) more (omega (arith, z .fits, lm, l₂)); narrow = z .narrow; few = omega (arith, z .few, more) };
+          rows = S .room;
+          some = omega arith;
+          most = omega (arith, S .few, hk);
+          bytes = omega (arith, lh, S .long-h);
+          small = small;
+          first = room-first w n base m₁ m₂ base-below long-room e .0;
+        }
+
+    pub room-rest : (m₃ : List ℕ) → drop ((n + 2 ^ r) * w) m₃ ≡ drop ((n + 2 ^ r) * w) m₂ → drop (n * w) m₁ ≡ drop (n * w) m → drop ((n + 2 ^ k) * w) m₃ ≡ drop ((n + 2 ^ k) * w) m
+    room-rest m₃ rest old =
+        drop-more ((n + 2 ^ r) * w) ((n + 2 ^ k) * w) m₃ m₂ (mul-le-mul-right w (omega (arith, pow-mono {i = r} {j = k} (S .few)))) rest
+        ∙ room-first-past w n (2 ^ k) base m₁ m₂ base-below two-more long-room e
+        ∙ room-drop w n (2 ^ k) m₁ m old
+
+-- ---- the numbers of a turn of the loop over the windows
+
+pub turn-below : (j end : ℕ) → j < end → j + 1 ≤ end
+turn-below j end h = omega arith
+
+pub turn-added : (j added rank kw k a : ℕ) → added ≤ j * 255 → rank ≤ kw → kw ≤ k → k ≤ 8 → a ≡ tableAdditions rank → added + a ≤ (j + 1) * 255
+turn-added j added rank kw k a h l m n e = omega (arith, h, e, table-small rank (omega arith))
+
+pub turn-rest : (kw k w : ℕ) (t t₁ t₂ : List ℕ) → kw ≤ k → drop (2 ^ kw * w) t₂ ≡ drop (2 ^ kw * w) t₁ → drop (2 ^ k * w) t₁ ≡ drop (2 ^ k * w) t → drop (2 ^ k * w) t₂ ≡ drop (2 ^ k * w) t
+turn-rest kw k w t t₁ t₂ h e old = drop-more (2 ^ kw * w) (2 ^ k * w) t₂ t₁ (table-room kw k w h) e ∙ old
+
+pub turn-rest-in : (n kw k w : ℕ) (m m₁ m₂ : List ℕ) → kw ≤ k → drop ((n + 2 ^ kw) * w) m₂ ≡ drop ((n + 2 ^ kw) * w) m₁ → drop ((n + 2 ^ k) * w) m₁ ≡ drop ((n + 2 ^ k) * w) m → drop ((n + 2 ^ k) * w) m₂ ≡ drop ((n + 2 ^ k) * w) m
+turn-rest-in n kw k w m m₁ m₂ h e old = drop-more ((n + 2 ^ kw) * w) ((n + 2 ^ k) * w) m₂ m₁ (mul-le-mul-right w (omega (arith, pow-mono {i = kw} {j = k} h))) e ∙ old

@@ -1,6 +1,6 @@
 -- Each turn does one window; after the last all columns are done.
 use denote.Ref.{now}
-use mathlib.Core.Path.{_≡_, refl, _∙_, subst}
+use mathlib.Core.Path.{_≡_, refl, sym, _∙_, subst}
 use mathlib.Core.List.{List}
 use Prim.Native.Nat.{ℕ, _-_, _*_, _^_, _≤_}
 use lib.ListN.{length, drop, length-replicate}
@@ -9,7 +9,7 @@ use Rattle.gf2.proofs.Additions.{window-starts}
 use Rattle.words.specs.Words.{rowsOf}
 use Rattle.words.proofs.Rows.{length-rows}
 use Rattle.engine.specs.Stage.{Passed}
-use Rattle.engine.proofs.Windows.{passed-start, passed-next, finished, table-room, drop-more, steps-small, table-small}
+use Rattle.engine.proofs.Windows.{passed-start, passed-next, finished, table-room, steps-small, table-small, turn-below, turn-added, turn-rest}
 use borrow.Author.Needs.{needs}
 use native.Mathlib.Omega.{arith}
 use Rattle.engine.proofs.all.Statement.{statement}
@@ -24,7 +24,7 @@ abbrev μ-loop : tie.MeasureT-loop
 μ-loop m₀ w n columns k t₀ cols₀ codes h₀ o₀ end rank₀ additions₀ j₀ m t cols h o rank additions j = end - j
 
 book-requires : tie.Need-book-requires Inv-loop μ-loop
-book-requires c κs = search needs
+book-requires c κs = tt
 
 count-requires : tie.Need-count-requires Inv-loop μ-loop
 count-requires c κs = (c .before .before .before .before .pre .0 .least, c .before .before .before .before .pre .0 .most, c .before .before .before .before .pre .0 .wide)
@@ -39,10 +39,10 @@ width-requires : tie.Need-width-requires Inv-loop μ-loop
 width-requires c κs = (c .before .before .before .before .before .before .before .pre .0 .least, window-starts (c .before .before .before .before .before .before .before .args .k) (c .before .before .before .before .before .before .before .args .columns) (c .before .loop .j) (c .before .before .before .before .before .before .before .pre .0 .least) (omega (arith, c .loop-test .taken, c .before .before .count .ensures)))
 
 slice-aggregate-window : tie.Need-slice-aggregate-window Inv-loop μ-loop
-slice-aggregate-window c = search needs
+slice-aggregate-window c = sym (c .before .before .before .before .before .before .loop .inv .7)
 
 slice-aggregate-window-2 : tie.Need-slice-aggregate-window-2 Inv-loop μ-loop
-slice-aggregate-window-2 c = search needs
+slice-aggregate-window-2 c = sym (c .before .before .before .before .before .before .before .loop .inv .8)
 
 window-requires : tie.Need-window-requires Inv-loop μ-loop
 window-requires c κs =
@@ -71,7 +71,7 @@ add-j : tie.Need-add-j Inv-loop μ-loop
 add-j c = search needs
 
 loop-less : tie.Need-loop-less Inv-loop μ-loop
-loop-less c = search needs
+loop-less c = omega (arith, c .before .before .before .before .before .before .before .before .before .before .before .before .before .before .before .before .loop-test .taken)
 
 loop-again : tie.Need-loop-again Inv-loop μ-loop
 loop-again c =
@@ -84,25 +84,25 @@ loop-again c =
     let L : List ℕ = rowsOf (g .w) (g .n) (now (g .m)) in (
       passed-next (g .n) (g .columns) (g .k) (c .before .before .before .before .before .before .before .before .before .before .before .before .before .before .before .width .result) (l .j) (l .rank) (f .result .rank) (l .additions) (f .result .additions) L (rowsOf (g .w) (g .n) (l .m)) (rowsOf (g .w) (g .n) (c .before .before .before .before .before .before .before .before .window .last .1 .0)) (l .cols) (c .before .before .before .before .before .before .before .before .window .last .1 .1 .1 .1 .1 .1 .1 .1 .1 .1 .0)
           (p .0 .least) (h .1) (h .3) (p .0 .clean) (l .inv .0) W (f .ensures .3),
-      omega (arith, c .before .before .before .before .before .before .before .before .before .before .before .before .before .before .before .before .before .loop .inv .1, table-small (c .before .before .before .before .before .before .before .before .window .result .rank) (omega (arith, c .before .before .before .before .before .before .before .before .window .ensures .0 .few, c .before .before .before .before .before .before .before .before .before .before .before .before .before .before .before .width .ensures .1, c .before .before .before .before .before .before .before .before .before .before .before .before .before .before .before .before .before .before .before .before .before .before .before .pre .0 .most)), c .before .before .before .before .before .before .before .before .window .ensures .3, steps-small (c .before .before .before .before .before .before .before .before .before .before .before .before .before .before .before .before .before .loop .j) (c .before .before .before .before .before .before .before .before .before .before .before .before .before .before .before .before .before .before .before .before .before .before .before .args .k) (c .before .before .before .before .before .before .before .before .before .before .before .before .before .before .before .before .before .before .before .before .before .before .before .args .columns) (c .before .before .before .before .before .before .before .before .before .before .before .before .before .before .before .before .before .before .before .before .before .before .before .pre .0 .least) (window-starts (c .before .before .before .before .before .before .before .before .before .before .before .before .before .before .before .before .before .before .before .before .before .before .before .args .k) (c .before .before .before .before .before .before .before .before .before .before .before .before .before .before .before .before .before .before .before .before .before .before .before .args .columns) (c .before .before .before .before .before .before .before .before .before .before .before .before .before .before .before .before .before .loop .j) (c .before .before .before .before .before .before .before .before .before .before .before .before .before .before .before .before .before .before .before .before .before .before .before .pre .0 .least) (omega (arith, c .before .before .before .before .before .before .before .before .before .before .before .before .before .before .before .before .loop-test .taken, c .before .before .before .before .before .before .before .before .before .before .before .before .before .before .before .before .before .before .count .ensures))), c .before .before .before .before .before .before .before .before .before .before .before .before .before .before .before .before .before .before .before .before .before .before .before .pre .0 .wide),
-      omega (arith, c .before .before .before .before .before .before .before .before .before .before .before .before .before .before .before .before .loop-test .taken),
+      turn-added (l .j) (l .additions) (f .result .rank) (c .before .before .before .before .before .before .before .before .before .before .before .before .before .before .before .width .result) (g .k) (f .result .additions) (l .inv .1) (W .few) (h .1) (p .0 .most) (f .ensures .3),
+      turn-below (l .j) _ (c .before .before .before .before .before .before .before .before .before .before .before .before .before .before .before .before .loop-test .taken),
       f .ensures .1 ∙ l .inv .3,
-      drop-more (2 ^ c .before .before .before .before .before .before .before .before .before .before .before .before .before .before .before .width .result * g .w) (2 ^ g .k * g .w) (c .before .before .before .before .before .before .before .before .window .last .1 .1 .1 .1 .1 .1 .1 .0) (l .t) (table-room (c .before .before .before .before .before .before .before .before .before .before .before .before .before .before .before .width .result) (g .k) (g .w) (h .1)) (f .ensures .2) ∙ l .inv .4,
-      search needs,
-      search needs,
-      search needs,
-      search needs,
-      search needs,
+      turn-rest (c .before .before .before .before .before .before .before .before .before .before .before .before .before .before .before .width .result) (g .k) (g .w) (now (g .t)) (l .t) (f .last .1 .1 .1 .1 .1 .1 .1 .0) (h .1) (f .ensures .2) (l .inv .4),
+      f .kept .1 .0 ∙ l .inv .5,
+      f .kept .1 .1 .1 .1 .1 .1 .1 .0 ∙ l .inv .6,
+      f .kept .1 .1 .1 .1 .1 .1 .1 .1 .0 ∙ l .inv .7,
+      f .kept .1 .1 .1 .1 .1 .1 .1 .1 .1 .0 ∙ l .inv .8,
+      f .kept .1 .1 .1 .1 .1 .1 .1 .1 .1 .1 .0 ∙ l .inv .9,
     )
 
 same-length : tie.Need-same-length Inv-loop μ-loop
-same-length c = search needs
+same-length c = c .before .loop .inv .5
 
 same-length-2 : tie.Need-same-length-2 Inv-loop μ-loop
-same-length-2 c = search needs
+same-length-2 c = c .before .loop .inv .6
 
 same-length-3 : tie.Need-same-length-3 Inv-loop μ-loop
-same-length-3 c = search needs
+same-length-3 c = c .before .loop .inv .9
 
 returns : tie.Need-returns Inv-loop μ-loop
 returns c =

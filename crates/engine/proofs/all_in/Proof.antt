@@ -1,9 +1,8 @@
 -- Each turn does one window; after the last all columns are done.
 use denote.Ref.{now}
-use mathlib.Core.Path.{_≡_, refl, _∙_, subst}
+use mathlib.Core.Path.{_≡_, refl, sym, _∙_, subst}
 use mathlib.Core.List.{List}
 use Prim.Native.Nat.{ℕ, _+_, _-_, _*_, _^_, _≤_}
-use native.Mathlib.Nat.{mul-le-mul-right}
 use lib.ListN.{length, drop, length-replicate}
 use lib.Pow.{pow-mono}
 use Rattle.gf2.specs.Additions.{windows}
@@ -11,7 +10,7 @@ use Rattle.gf2.proofs.Additions.{window-starts}
 use Rattle.words.specs.Words.{rowsOf}
 use Rattle.words.proofs.Rows.{length-rows}
 use Rattle.engine.specs.Stage.{Passed}
-use Rattle.engine.proofs.Windows.{passed-start, passed-next, finished, drop-more, steps-small, table-small, room-less, pow-small}
+use Rattle.engine.proofs.Windows.{passed-start, passed-next, finished, steps-small, table-small, room-less, pow-small, turn-below, turn-added, turn-rest-in}
 use borrow.Author.Needs.{needs}
 use native.Mathlib.Omega.{arith}
 use Rattle.engine.proofs.all_in.Statement.{statement}
@@ -26,7 +25,7 @@ abbrev μ-loop : tie.MeasureT-loop
 μ-loop m₀ w n columns k cols₀ codes h₀ o₀ end rank₀ additions₀ j₀ m cols h o rank additions j = end - j
 
 book-requires : tie.Need-book-requires Inv-loop μ-loop
-book-requires c κs = search needs
+book-requires c κs = tt
 
 count-requires : tie.Need-count-requires Inv-loop μ-loop
 count-requires c κs = (c .before .before .before .pre .0 .least, c .before .before .before .pre .0 .most, c .before .before .before .pre .0 .wide)
@@ -41,10 +40,10 @@ width-requires : tie.Need-width-requires Inv-loop μ-loop
 width-requires c κs = (c .before .before .before .before .before .before .pre .0 .least, window-starts (c .before .before .before .before .before .before .args .k) (c .before .before .before .before .before .before .args .columns) (c .before .loop .j) (c .before .before .before .before .before .before .pre .0 .least) (omega (arith, c .loop-test .taken, c .before .before .count .ensures)))
 
 slice-aggregate-window-in : tie.Need-slice-aggregate-window-in Inv-loop μ-loop
-slice-aggregate-window-in c = search needs
+slice-aggregate-window-in c = sym (c .before .before .before .before .before .loop .inv .5)
 
 slice-aggregate-window-in-2 : tie.Need-slice-aggregate-window-in-2 Inv-loop μ-loop
-slice-aggregate-window-in-2 c = search needs
+slice-aggregate-window-in-2 c = sym (c .before .before .before .before .before .before .loop .inv .6)
 
 window-in-requires : tie.Need-window-in-requires Inv-loop μ-loop
 window-in-requires c κs =
@@ -73,7 +72,7 @@ add-j : tie.Need-add-j Inv-loop μ-loop
 add-j c = search needs
 
 loop-less : tie.Need-loop-less Inv-loop μ-loop
-loop-less c = search needs
+loop-less c = omega (arith, c .before .before .before .before .before .before .before .before .before .before .before .before .before .loop-test .taken)
 
 loop-again : tie.Need-loop-again Inv-loop μ-loop
 loop-again c =
@@ -86,20 +85,20 @@ loop-again c =
     let L : List ℕ = rowsOf (g .w) (g .n) (now (g .m)) in (
       passed-next (g .n) (g .columns) (g .k) (c .before .before .before .before .before .before .before .before .before .before .before .before .width .result) (l .j) (l .rank) (f .result .rank) (l .additions) (f .result .additions) L (rowsOf (g .w) (g .n) (l .m)) (rowsOf (g .w) (g .n) (c .before .before .before .before .before .before .window-in .last .1 .0)) (l .cols) (c .before .before .before .before .before .before .window-in .last .1 .1 .1 .1 .1 .1 .1 .1 .1 .0)
           (p .0 .least) (h .1) (h .3) (p .0 .clean) (l .inv .0) W (f .ensures .2),
-      omega (arith, c .before .before .before .before .before .before .before .before .before .before .before .before .before .before .loop .inv .1, table-small (c .before .before .before .before .before .before .window-in .result .rank) (omega (arith, c .before .before .before .before .before .before .window-in .ensures .0 .few, c .before .before .before .before .before .before .before .before .before .before .before .before .width .ensures .1, c .before .before .before .before .before .before .before .before .before .before .before .before .before .before .before .before .before .before .before .pre .0 .most)), c .before .before .before .before .before .before .window-in .ensures .2, steps-small (c .before .before .before .before .before .before .before .before .before .before .before .before .before .before .loop .j) (c .before .before .before .before .before .before .before .before .before .before .before .before .before .before .before .before .before .before .before .args .k) (c .before .before .before .before .before .before .before .before .before .before .before .before .before .before .before .before .before .before .before .args .columns) (c .before .before .before .before .before .before .before .before .before .before .before .before .before .before .before .before .before .before .before .pre .0 .least) (window-starts (c .before .before .before .before .before .before .before .before .before .before .before .before .before .before .before .before .before .before .before .args .k) (c .before .before .before .before .before .before .before .before .before .before .before .before .before .before .before .before .before .before .before .args .columns) (c .before .before .before .before .before .before .before .before .before .before .before .before .before .before .loop .j) (c .before .before .before .before .before .before .before .before .before .before .before .before .before .before .before .before .before .before .before .pre .0 .least) (omega (arith, c .before .before .before .before .before .before .before .before .before .before .before .before .before .loop-test .taken, c .before .before .before .before .before .before .before .before .before .before .before .before .before .before .before .count .ensures))), c .before .before .before .before .before .before .before .before .before .before .before .before .before .before .before .before .before .before .before .pre .0 .wide),
-      omega (arith, c .before .before .before .before .before .before .before .before .before .before .before .before .before .loop-test .taken),
-      drop-more ((g .n + 2 ^ c .before .before .before .before .before .before .before .before .before .before .before .before .width .result) * g .w) ((g .n + 2 ^ g .k) * g .w) (c .before .before .before .before .before .before .window-in .last .1 .0) (l .m) (mul-le-mul-right (g .w) (omega (arith, pow-mono (h .1)))) (f .ensures .1) ∙ l .inv .3,
-      search needs,
-      search needs,
-      search needs,
-      search needs,
+      turn-added (l .j) (l .additions) (f .result .rank) (c .before .before .before .before .before .before .before .before .before .before .before .before .width .result) (g .k) (f .result .additions) (l .inv .1) (W .few) (h .1) (p .0 .most) (f .ensures .2),
+      turn-below (l .j) _ (c .before .before .before .before .before .before .before .before .before .before .before .before .before .loop-test .taken),
+      turn-rest-in (g .n) (c .before .before .before .before .before .before .before .before .before .before .before .before .width .result) (g .k) (g .w) (now (g .m)) (l .m) (f .last .1 .0) (h .1) (f .ensures .1) (l .inv .3),
+      f .kept .1 .0 ∙ l .inv .4,
+      f .kept .1 .1 .1 .1 .1 .1 .1 .0 ∙ l .inv .5,
+      f .kept .1 .1 .1 .1 .1 .1 .1 .1 .0 ∙ l .inv .6,
+      f .kept .1 .1 .1 .1 .1 .1 .1 .1 .1 .0 ∙ l .inv .7,
     )
 
 same-length : tie.Need-same-length Inv-loop μ-loop
-same-length c = search needs
+same-length c = c .before .loop .inv .4
 
 same-length-2 : tie.Need-same-length-2 Inv-loop μ-loop
-same-length-2 c = search needs
+same-length-2 c = c .before .loop .inv .7
 
 returns : tie.Need-returns Inv-loop μ-loop
 returns c =

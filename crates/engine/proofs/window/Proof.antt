@@ -2,31 +2,30 @@
 use denote.Ref.{now}
 use mathlib.Core.Path.{_≡_, refl, _∙_, subst}
 use mathlib.Core.List.{List}
-use Prim.Native.Nat.{ℕ, _*_, _^_, _≤_}
+use Prim.Native.Nat.{ℕ}
 use lib.ListN.{length}
 use Rattle.words.specs.Words.{rowsOf}
-use Rattle.words.proofs.Rows.{length-rows, row-ends}
+use Rattle.words.proofs.Rows.{length-rows}
 use Rattle.engine.specs.Stage.{Search}
-use Rattle.engine.proofs.Windows.{marks, no-pivots, cleared-all, windowed, no-additions, table-room, drop-more, window-first, first-past}
+use Rattle.engine.proofs.Windows.{marks, no-pivots, cleared-all, windowed, no-additions, table-room, window-applies, window-rest}
 use native.Mathlib.Omega.{arith}
-use borrow.Author.Needs.{needs}
 use Rattle.engine.proofs.window.Statement.{statement}
 use Rattle.engine.proofs.window.Tie as tie
 
 search-requires : tie.Need-search-requires
-search-requires c κs = search needs
+search-requires c κs = let p = c .before .before .before .before .before .before .before .before .before .pre in (p .0, p .1, p .2, p .3, p .5, p .6, p .7)
 
 same-length : tie.Need-same-length
-same-length c = search needs
+same-length c = c .before .before .before .before .before .before .before .before .before .search .kept .0
 
 same-length-2 : tie.Need-same-length-2
-same-length-2 c = search needs
+same-length-2 c = c .before .before .before .before .before .before .before .before .before .search .kept .1 .1 .1 .1 .1 .1 .0
 
 same-length-3 : tie.Need-same-length-3
-same-length-3 c = search needs
+same-length-3 c = c .before .before .before .before .before .before .before .before .before .search .kept .1 .1 .1 .1 .1 .1 .1 .0
 
 same-length-4 : tie.Need-same-length-4
-same-length-4 c = search needs
+same-length-4 c = c .before .before .before .before .before .before .before .before .before .search .kept .1 .1 .1 .1 .1 .1 .1 .1 .0
 
 returns : tie.Need-returns
 returns c =
@@ -46,7 +45,7 @@ numbers-requires c κs =
     let g = c .before .before .before .before .before .before .before .before .before .before .before .before .before .before .before .before .before .before .before .before .before .before .args in
     let p = c .before .before .before .before .before .before .before .before .before .before .before .before .before .before .before .before .before .before .before .before .before .before .pre in
     let S = c .before .before .before .before .before .before .before .before .before .before .before .before .search .ensures .0 in
-    let lm : length (c .before .before .before .before .before .before .before .before .before .before .before .before .search .last .0) ≡ length (now (g .m)) = search needs in (
+    let lm : length (c .before .before .before .before .before .before .before .before .before .before .before .before .search .last .0) ≡ length (now (g .m)) = c .before .before .before .before .before .before .before .before .before .before .before .before .search .kept .0 in (
       record { fits = omega (arith, p .0 .fits); narrow = p .0 .narrow; few = p .0 .few },
       p .1,
       p .2,
@@ -64,46 +63,32 @@ first-requires c κs =
     let g = c .before .before .before .before .before .before .before .before .before .before .before .before .before .before .before .before .before .before .before .before .before .before .before .before .before .before .before .args in
     let p = c .before .before .before .before .before .before .before .before .before .before .before .before .before .before .before .before .before .before .before .before .before .before .before .before .before .before .before .pre in
     let S = c .before .before .before .before .before .before .before .before .before .before .before .before .before .before .before .before .before .search .ensures .0 in
-    let lm : length (c .before .before .before .before .before .before .before .before .before .before .before .before .before .before .before .before .before .search .last .0) ≡ length (now (g .m)) = search needs in
+    let lm : length (c .before .before .before .before .before .before .before .before .before .before .before .before .before .before .before .before .before .search .last .0) ≡ length (now (g .m)) = c .before .before .before .before .before .before .before .before .before .before .before .before .before .before .before .before .before .search .kept .0 in
     (record { fits = omega (arith, p .0 .fits); narrow = p .0 .narrow; few = p .0 .few }, omega (arith, S .room, c .before .before .before .before .before .before .before .before .if1 .left), omega (arith, p .4, table-room 1 (g .k) (g .w) (omega (arith, S .few, c .before .before .before .before .before .before .before .before .if1 .left))))
 
 apply-requires : tie.Need-apply-requires
 apply-requires c κs =
     let g = c .before .before .before .before .before .before .before .before .before .before .before .before .before .before .before .before .before .before .before .before .before .before .before .before .before .before .before .before .before .before .before .before .before .args in
     let p = c .before .before .before .before .before .before .before .before .before .before .before .before .before .before .before .before .before .before .before .before .before .before .before .before .before .before .before .before .before .before .before .before .before .pre in
-    let S = c .before .before .before .before .before .before .before .before .before .before .before .before .before .before .before .before .before .before .before .before .before .before .before .search .ensures .0 in
-    let r = c .before .before .before .before .before .before .before .before .before .before .before .before .before .before .before .before .before .before .before .before .before .before .before .search .result in
-    let lm : length (c .before .before .before .before .before .before .before .before .before .before .before .before .before .before .before .before .before .before .before .before .before .before .before .search .last .0) ≡ length (now (g .m)) = search needs in
-    let lt : length (c .before .before .before .before .before .first .last .0) ≡ length (now (g .t)) = search needs in
-    let lh : length (c .before .before .before .before .before .before .before .before .before .before .numbers .last .1 .1 .1 .1 .1 .1 .1 .0) ≡ length (c .before .before .before .before .before .before .before .before .before .before .before .before .before .before .before .before .before .before .before .before .before .before .before .search .last .1 .1 .1 .1 .1 .1 .0) = search needs in
-    let room : 2 ^ r * g .w ≤ length (now (g .t)) = omega (arith, p .4, table-room r (g .k) (g .w) (S .few)) in (
-      record {
-        sizes = record { fits = omega (arith, p .0 .fits); narrow = p .0 .narrow; few = p .0 .few };
-        rows = S .room;
-        some = omega (arith, c .before .before .before .before .before .before .before .before .before .before .before .before .before .before .if1 .left);
-        most = omega (arith, S .few, p .3);
-        table = omega arith;
-        bytes = omega (arith, S .long-h);
-        small = c .before .before .before .before .before .before .before .before .before .before .numbers .ensures .small;
-        first = window-first (g .w) (g .base) (now (g .t)) (c .before .before .before .before .before .before .before .before .before .before .before .before .before .before .before .before .before .before .before .before .before .before .before .search .last .0) (c .before .before .before .before .before .first .last .0) (omega (arith, p .4, table-room 1 (g .k) (g .w) (omega (arith, S .few, c .before .before .before .before .before .before .before .before .before .before .before .before .before .before .if1 .left)))) (omega (arith, p .0 .fits, row-ends (g .base) (g .n) (g .w) (omega (arith, S .room, c .before .before .before .before .before .before .before .before .before .before .before .before .before .before .if1 .left)))) (c .before .before .before .before .before .first .ensures);
-      },
-      p .8,
-    )
+    let s = c .before .before .before .before .before .before .before .before .before .before .before .before .before .before .before .before .before .before .before .before .before .before .before .search in
+    let f = c .before .before .before .before .before .first in
+    let u = c .before .before .before .before .before .before .before .before .before .before .numbers in
+    (window-applies (g .w) (g .n) (g .c) (g .k) (g .base) (s .result) (now (g .m)) (s .last .0) (now (g .t)) (f .last .0) (s .last .1 .1 .1 .1 .1 .1 .0) (s .last .1 .1 .1 .1 .1 .1 .1 .0) (s .last .1 .1 .1 .1 .1 .1 .1 .1 .0) (p .0) (s .kept .0) (p .3) (p .4) (s .ensures .0) (c .before .before .before .before .before .before .before .before .before .before .before .before .before .before .if1 .left) (f .ensures) (u .last .1 .1 .1 .1 .1 .1 .1 .0) (f .kept .0) (u .kept .1 .1 .1 .1 .1 .1 .1 .0) (u .ensures .small), p .8)
 
 same-length-5 : tie.Need-same-length-5
-same-length-5 c = search needs
+same-length-5 c = c .before .before .before .before .apply .kept .1 .0 ∙ c .before .before .before .before .before .before .before .before .before .before .before .before .before .before .before .before .before .before .before .before .before .before .before .before .before .before .before .before .search .kept .0
 
 same-length-6 : tie.Need-same-length-6
-same-length-6 c = search needs
+same-length-6 c = c .before .before .before .before .apply .kept .1 .1 .1 .0 ∙ c .before .before .before .before .before .before .before .before .before .before .first .kept .0
 
 same-length-7 : tie.Need-same-length-7
-same-length-7 c = search needs
+same-length-7 c = c .before .before .before .before .before .before .before .before .before .before .before .before .before .before .before .numbers .kept .1 .1 .1 .1 .1 .1 .1 .0 ∙ c .before .before .before .before .before .before .before .before .before .before .before .before .before .before .before .before .before .before .before .before .before .before .before .before .before .before .before .before .search .kept .1 .1 .1 .1 .1 .1 .0
 
 same-length-8 : tie.Need-same-length-8
-same-length-8 c = search needs
+same-length-8 c = c .before .before .before .before .before .before .before .before .before .before .before .before .before .before .before .before .before .before .before .before .before .before .before .before .before .before .before .before .search .kept .1 .1 .1 .1 .1 .1 .1 .0
 
 same-length-9 : tie.Need-same-length-9
-same-length-9 c = search needs
+same-length-9 c = c .before .before .before .before .before .before .before .before .before .before .before .before .before .before .before .before .before .before .before .before .before .before .before .before .before .before .before .before .search .kept .1 .1 .1 .1 .1 .1 .1 .1 .0
 
 returns-2 : tie.Need-returns-2
 returns-2 c =
@@ -117,7 +102,7 @@ returns-2 c =
       windowed (g .n) (g .c) (g .k) (g .base) r M (c .before .before .before .before .before .before .before .before .before .before .before .before .before .before .before .before .before .before .before .before .before .before .before .before .before .before .before .before .search .last .1 .1 .1 .1 .1 .1 .0) (c .before .before .before .before .before .before .before .before .before .before .before .before .before .before .before .before .before .before .before .before .before .before .before .before .before .before .before .before .search .last .1 .1 .1 .1 .1 .1 .1 .0) (c .before .before .before .before .before .before .before .before .before .before .before .before .before .before .before .before .before .before .before .before .before .before .before .before .before .before .before .before .search .last .1 .1 .1 .1 .1 .1 .1 .1 .0) S (rowsOf (g .w) (g .n) (now (g .m))) (rowsOf (g .w) (g .n) (c .before .before .before .before .apply .last .1 .0)) (now (g .cols)) (s .ensures .1)
           (a .now .rows ∙ cleared-all (g .n) (g .c) (g .k) (g .base) r M (c .before .before .before .before .before .before .before .before .before .before .before .before .before .before .before .before .before .before .before .before .before .before .before .before .before .before .before .before .search .last .1 .1 .1 .1 .1 .1 .0) (c .before .before .before .before .before .before .before .before .before .before .before .before .before .before .before .before .before .before .before .before .before .before .before .before .before .before .before .before .search .last .1 .1 .1 .1 .1 .1 .1 .0) (c .before .before .before .before .before .before .before .before .before .before .before .before .before .before .before .before .before .before .before .before .before .before .before .before .before .before .before .before .search .last .1 .1 .1 .1 .1 .1 .1 .1 .0) S (c .before .before .before .before .before .before .before .before .before .before .before .before .before .before .before .numbers .last .1 .1 .1 .1 .1 .1 .1 .0) (length-rows (g .w) (g .n) (c .before .before .before .before .before .before .before .before .before .before .before .before .before .before .before .before .before .before .before .before .before .before .before .before .before .before .before .before .search .last .0)) (c .before .before .before .before .before .before .before .before .before .before .before .before .before .before .before .numbers .ensures)) (s .ensures .2),
       a .now .past ∙ s .ensures .3,
-      drop-more (2 ^ r * g .w) (2 ^ g .k * g .w) (c .before .before .before .before .apply .last .1 .1 .1 .0) (c .before .before .before .before .before .before .before .before .before .before .first .last .0) (table-room r (g .k) (g .w) (S .few)) (a .rest) ∙ first-past (g .w) (g .k) (g .base) (now (g .t)) (c .before .before .before .before .before .before .before .before .before .before .before .before .before .before .before .before .before .before .before .before .before .before .before .before .before .before .before .before .search .last .0) (c .before .before .before .before .before .before .before .before .before .before .first .last .0) (table-room 1 (g .k) (g .w) (omega (arith, S .few, c .before .before .before .before .before .before .before .before .before .before .before .before .before .before .before .before .before .before .before .if1 .left))) (p .4) (omega (arith, p .0 .fits, row-ends (g .base) (g .n) (g .w) (omega (arith, S .room, c .before .before .before .before .before .before .before .before .before .before .before .before .before .before .before .before .before .before .before .if1 .left)))) (c .before .before .before .before .before .before .before .before .before .before .first .ensures),
+      window-rest (g .w) (g .n) (g .c) (g .k) (g .base) r (now (g .m)) (s .last .0) (now (g .t)) (c .before .before .before .before .before .before .before .before .before .before .first .last .0) (s .last .1 .1 .1 .1 .1 .1 .0) (s .last .1 .1 .1 .1 .1 .1 .1 .0) (s .last .1 .1 .1 .1 .1 .1 .1 .1 .0) (p .0) (s .kept .0) (p .3) (p .4) S (c .before .before .before .before .before .before .before .before .before .before .before .before .before .before .before .before .before .before .before .if1 .left) (c .before .before .before .before .before .before .before .before .before .before .first .ensures) (c .before .before .before .before .apply .last .1 .1 .1 .0) (a .rest),
       a .count,
     )
 

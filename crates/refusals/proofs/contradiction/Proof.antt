@@ -12,7 +12,7 @@ use Rattle.refusals.proofs.contradiction.Statement.{statement}
 use Rattle.refusals.proofs.contradiction.Tie as tie
 
 contradiction-shape-requires : tie.Need-contradiction-shape-requires
-contradiction-shape-requires c κs = search needs
+contradiction-shape-requires c κs = tt
 
 enum-known-o : tie.Need-enum-known-o
 enum-known-o c = search needs
@@ -26,13 +26,13 @@ add-short-room c =
     omega (arith, contradiction-small (g .rows) (g .columns) (g .n) (g .k) (length (now (g .m))) (g .named) (sym (c .before .before .contradiction-shape .ensures) ∙ c .enum-told .given .1))
 
 short-room-requires : tie.Need-short-room-requires
-short-room-requires c κs = search needs
+short-room-requires c κs = tt
 
 dirty-padding-requires : tie.Need-dirty-padding-requires
-dirty-padding-requires c κs = search needs
+dirty-padding-requires c κs = tt
 
 and-then-requires : tie.Need-and-then-requires
-and-then-requires c κs = search needs
+and-then-requires c κs = tt
 
 returns : tie.Need-returns
 returns c =

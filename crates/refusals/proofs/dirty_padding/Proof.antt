@@ -1,16 +1,19 @@
 -- The refusal by the test.
-use borrow.Author.Needs.{needs}
+use mathlib.Core.Path.{ap, _∙_}
+use mathlib.Core.Bool.{Bool, not}
+use Rattle.refusals.specs.declared.Refusal.the-variants.{DirtyPadding}
+use Rattle.refusals.specs.Outcome.{refuseIf}
 use Rattle.refusals.proofs.dirty_padding.Statement.{statement}
 use Rattle.refusals.proofs.dirty_padding.Tie as tie
 
 holds-requires : tie.Need-holds-requires
-holds-requires c κs = search needs
+holds-requires c κs = tt
 
 refuse-if-requires : tie.Need-refuse-if-requires
-refuse-if-requires c κs = search needs
+refuse-if-requires c κs = tt
 
 returns : tie.Need-returns
-returns c = cc
+returns c = c .refuse-if .ensures ∙ ap (λ (b : Bool). refuseIf (not b) DirtyPadding) (c .before .holds .ensures)
 
 pub dirty-padding-spec : {M : Type 1} → statement M
 dirty-padding-spec = tie.close (tie.spec holds-requires refuse-if-requires returns)

@@ -11,7 +11,7 @@ use Rattle.refusals.proofs.holds.Statement.{statement}
 use Rattle.refusals.proofs.holds.Tie as tie
 
 words-requires : tie.Need-words-requires
-words-requires c κs = search needs
+words-requires c κs = tt
 
 returns : tie.Need-returns
 returns c = let g = c .before .before .before .args in holds-none (g .rows) (g .columns) (now (g .m)) (sym (c .before .words .ensures) ∙ c .if1 .taken)

@@ -12,7 +12,7 @@ use Rattle.refusals.proofs.inverse.Statement.{statement}
 use Rattle.refusals.proofs.inverse.Tie as tie
 
 inverse-shape-requires : tie.Need-inverse-shape-requires
-inverse-shape-requires c κs = search needs
+inverse-shape-requires c κs = tt
 
 enum-known-o : tie.Need-enum-known-o
 enum-known-o c = search needs
@@ -26,13 +26,13 @@ add-short-room c =
     omega (arith, inverse-small (g .rows) (g .columns) (g .k) (length (now (g .m))) (g .result) (sym (c .before .before .inverse-shape .ensures) ∙ c .enum-told .given .1))
 
 short-room-requires : tie.Need-short-room-requires
-short-room-requires c κs = search needs
+short-room-requires c κs = tt
 
 dirty-padding-requires : tie.Need-dirty-padding-requires
-dirty-padding-requires c κs = search needs
+dirty-padding-requires c κs = tt
 
 and-then-requires : tie.Need-and-then-requires
-and-then-requires c κs = search needs
+and-then-requires c κs = tt
 
 returns : tie.Need-returns
 returns c =

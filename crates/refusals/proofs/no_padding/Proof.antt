@@ -21,7 +21,7 @@ abbrev μ-loop : tie.MeasureT-loop
 μ-loop m w rows columns s i₀ i = rows - i
 
 odd-bits-requires : tie.Need-odd-bits-requires Inv-loop μ-loop
-odd-bits-requires c κs = search needs
+odd-bits-requires c κs = tt
 
 returns : tie.Need-returns Inv-loop μ-loop
 returns c =

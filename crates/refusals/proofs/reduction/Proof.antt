@@ -1,42 +1,41 @@
 -- The checks in order.
 use mathlib.Core.Path.{ap₂, _∙_}
 use Rattle.refusals.specs.Outcome.{_andThen_}
-use borrow.Author.Needs.{needs}
 use Rattle.refusals.proofs.reduction.Statement.{statement}
 use Rattle.refusals.proofs.reduction.Tie as tie
 
 too-many-rows-requires : tie.Need-too-many-rows-requires
-too-many-rows-requires c κs = search needs
+too-many-rows-requires c κs = tt
 
 bad-columns-requires : tie.Need-bad-columns-requires
-bad-columns-requires c κs = search needs
+bad-columns-requires c κs = tt
 
 and-then-requires : tie.Need-and-then-requires
-and-then-requires c κs = search needs
+and-then-requires c κs = tt
 
 bad-k-requires : tie.Need-bad-k-requires
-bad-k-requires c κs = search needs
+bad-k-requires c κs = tt
 
 and-then-requires-2 : tie.Need-and-then-requires-2
-and-then-requires-2 c κs = search needs
+and-then-requires-2 c κs = tt
 
 wrong-length-requires : tie.Need-wrong-length-requires
-wrong-length-requires c κs = search needs
+wrong-length-requires c κs = tt
 
 and-then-requires-3 : tie.Need-and-then-requires-3
-and-then-requires-3 c κs = search needs
+and-then-requires-3 c κs = tt
 
 short-room-requires : tie.Need-short-room-requires
-short-room-requires c κs = search needs
+short-room-requires c κs = tt
 
 and-then-requires-4 : tie.Need-and-then-requires-4
-and-then-requires-4 c κs = search needs
+and-then-requires-4 c κs = tt
 
 dirty-padding-requires : tie.Need-dirty-padding-requires
-dirty-padding-requires c κs = search needs
+dirty-padding-requires c κs = tt
 
 and-then-requires-5 : tie.Need-and-then-requires-5
-and-then-requires-5 c κs = search needs
+and-then-requires-5 c κs = tt
 
 returns : tie.Need-returns
 returns c = c .and-then5 .ensures ∙ ap₂ _andThen_ (c .before .before .and-then4 .ensures ∙ ap₂ _andThen_ (c .before .before .before .before .and-then3 .ensures ∙ ap₂ _andThen_ (c .before .before .before .before .before .before .and-then2 .ensures ∙ ap₂ _andThen_ (c .before .before .before .before .before .before .before .before .and-then .ensures ∙ ap₂ _andThen_ (c .before .before .before .before .before .before .before .before .before .before .too-many-rows .ensures) (c .before .before .before .before .before .before .before .before .before .bad-columns .ensures)) (c .before .before .before .before .before .before .before .bad-k .ensures)) (c .before .before .before .before .before .wrong-length .ensures)) (c .before .before .before .short-room .ensures)) (c .before .dirty-padding .ensures)

@@ -1,31 +1,36 @@
 -- The checks in order.
-use borrow.Author.Needs.{needs}
+use mathlib.Core.Path.{ap₂, _∙_}
+use Rattle.refusals.specs.Outcome.{_andThen_}
 use Rattle.refusals.proofs.view.Statement.{statement}
 use Rattle.refusals.proofs.view.Tie as tie
 
 too-many-rows-requires : tie.Need-too-many-rows-requires
-too-many-rows-requires c κs = search needs
+too-many-rows-requires c κs = tt
 
 bad-columns-requires : tie.Need-bad-columns-requires
-bad-columns-requires c κs = search needs
+bad-columns-requires c κs = tt
 
 and-then-requires : tie.Need-and-then-requires
-and-then-requires c κs = search needs
+and-then-requires c κs = tt
 
 wrong-length-requires : tie.Need-wrong-length-requires
-wrong-length-requires c κs = search needs
+wrong-length-requires c κs = tt
 
 and-then-requires-2 : tie.Need-and-then-requires-2
-and-then-requires-2 c κs = search needs
+and-then-requires-2 c κs = tt
 
 not-below-requires : tie.Need-not-below-requires
-not-below-requires c κs = search needs
+not-below-requires c κs = tt
 
 and-then-requires-3 : tie.Need-and-then-requires-3
-and-then-requires-3 c κs = search needs
+and-then-requires-3 c κs = tt
 
 returns : tie.Need-returns
-returns c = cc
+returns c =
+    c .and-then3 .ensures
+    ∙ ap₂ _andThen_ (c .before .before .and-then2 .ensures
+    ∙ ap₂ _andThen_ (c .before .before .before .before .and-then .ensures
+    ∙ ap₂ _andThen_ (c .before .before .before .before .before .before .too-many-rows .ensures) (c .before .before .before .before .before .bad-columns .ensures)) (c .before .before .before .wrong-length .ensures)) (c .before .not-below .ensures)
 
 pub view-spec : {M : Type 1} → statement M
 view-spec =

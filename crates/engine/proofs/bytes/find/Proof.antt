@@ -17,16 +17,16 @@ abbrev μ-loop : tie.MeasureT-loop
 μ-loop o x from n i₀ i = n - i
 
 loop-holds : tie.Need-loop-holds Inv-loop μ-loop
-loop-holds c = (λ j a b. absurd (omega arith), search needs, search needs)
+loop-holds c = (λ j a b. absurd (omega arith), omega arith, c .pre .1)
 
 shared-slice-read-if1 : tie.Need-shared-slice-read-if1 Inv-loop μ-loop
-shared-slice-read-if1 c = search needs
+shared-slice-read-if1 c = omega (arith, c .before .loop-test .taken, c .before .before .before .pre .2)
 
 cast-if1 : tie.Need-cast-if1 Inv-loop μ-loop
-cast-if1 c = search needs
+cast-if1 c = omega (arith, c .before .before .before .pre .0)
 
 shr-if1 : tie.Need-shr-if1 Inv-loop μ-loop
-shr-if1 c = search needs
+shr-if1 c = c .before .before .before .pre .0
 
 returns : tie.Need-returns Inv-loop μ-loop
 returns c =
@@ -37,12 +37,12 @@ add-i : tie.Need-add-i Inv-loop μ-loop
 add-i c = search needs
 
 loop-less : tie.Need-loop-less Inv-loop μ-loop
-loop-less c = search needs
+loop-less c = omega (arith, c .before .before .loop-test .taken)
 
 loop-again : tie.Need-loop-again Inv-loop μ-loop
 loop-again c =
     let s = c .before .before .before in
-    (found-none (now (s .before .args .o)) (s .before .args .x) (s .before .args .from) (s .loop .i) (s .loop .inv .0) (c .if1 .left), search needs, search needs)
+    (found-none (now (s .before .args .o)) (s .before .args .x) (s .before .args .from) (s .loop .i) (s .loop .inv .0) (c .if1 .left), omega (arith, c .before .before .before .loop .inv .1), omega (arith, c .before .before .loop-test .taken))
 
 returns-2 : tie.Need-returns-2 Inv-loop μ-loop
 returns-2 c =

@@ -17,7 +17,7 @@ abbrev μ-loop : tie.MeasureT-loop
 μ-loop x cols base c k r y₀ b₀ y b = r - b
 
 loop-holds : tie.Need-loop-holds Inv-loop μ-loop
-loop-holds c = (gather-start (c .before .args .c) (c .before .args .base) (now (c .before .args .cols)) (c .before .args .x), search needs)
+loop-holds c = (gather-start (c .before .args .c) (c .before .args .base) (now (c .before .args .cols)) (c .before .args .x), omega arith)
 
 add-wide : tie.Need-add-wide Inv-loop μ-loop
 add-wide c = search needs
@@ -26,10 +26,10 @@ mul-wide : tie.Need-mul-wide Inv-loop μ-loop
 mul-wide c = search needs
 
 shared-slice-read-wide : tie.Need-shared-slice-read-wide Inv-loop μ-loop
-shared-slice-read-wide c = search needs
+shared-slice-read-wide c = omega (arith, c .before .before .before .before .pre .0, c .before .loop-test .taken)
 
 wide-requires : tie.Need-wide-requires Inv-loop μ-loop
-wide-requires c κs = search needs
+wide-requires c κs = tt
 
 sub-q : tie.Need-sub-q Inv-loop μ-loop
 sub-q c =
@@ -53,16 +53,16 @@ shr-y c =
     omega (arith, c .wide .ensures, marks .low (s .loop .b) t, marks .high (s .loop .b) t)
 
 cast-y-2 : tie.Need-cast-y-2 Inv-loop μ-loop
-cast-y-2 c = search needs
+cast-y-2 c = let p = c .before .before .before .before .before .pre in omega (arith, c .before .before .loop-test .taken, p .1, p .2)
 
 shl-y : tie.Need-shl-y Inv-loop μ-loop
-shl-y c = search needs
+shl-y c = let p = c .before .before .before .before .before .pre in omega (arith, c .before .before .loop-test .taken, p .1, p .2)
 
 add-b : tie.Need-add-b Inv-loop μ-loop
-add-b c = search needs
+add-b c = let p = c .before .before .before .before .before .pre in omega (arith, c .before .before .loop-test .taken, p .1, p .2)
 
 loop-less : tie.Need-loop-less Inv-loop μ-loop
-loop-less c = search needs
+loop-less c = omega (arith, c .before .before .loop-test .taken)
 
 loop-again : tie.Need-loop-again Inv-loop μ-loop
 loop-again c =
@@ -70,7 +70,7 @@ loop-again c =
     let g = s .before .before .args in
     let t = c .before .before .loop-test .taken in
     let q : g .c + (c .wide .result - g .c) ≡ getD (now (g .cols)) (g .base + s .loop .b) 0 = omega (arith, c .wide .ensures, s .before .before .pre .3 .low (s .loop .b) t) in
-    (gather-more (g .c) (g .base) (s .loop .b) (now (g .cols)) (g .x) (s .loop .y) (c .wide .result - g .c) (omega (arith, t)) q (s .loop .inv .0), search needs)
+    (gather-more (g .c) (g .base) (s .loop .b) (now (g .cols)) (g .x) (s .loop .y) (c .wide .result - g .c) (omega (arith, t)) q (s .loop .inv .0), omega (arith, c .before .before .loop-test .taken))
 
 returns : tie.Need-returns Inv-loop μ-loop
 returns c =

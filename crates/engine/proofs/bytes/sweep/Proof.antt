@@ -18,15 +18,15 @@ abbrev μ-loop : tie.MeasureT-loop
 μ-loop o₀ x b n one u₀ i₀ o u i = n - i
 
 cast-one : tie.Need-cast-one Inv-loop μ-loop
-cast-one c = search needs
+cast-one c = omega (arith, c .pre .0)
 
 shl-one : tie.Need-shl-one Inv-loop μ-loop
-shl-one c = search needs
+shl-one c = c .pre .0
 
 loop-holds : tie.Need-loop-holds Inv-loop μ-loop
 loop-holds c =
     let g = c .args in
-    (made-start (ClearedAt (g .x) (g .b) (now (g .o))) 0 (now (g .o)), union-start 0 (now (g .o)), search needs, one-bit (g .x) (c .pre .0))
+    (made-start (ClearedAt (g .x) (g .b) (now (g .o))) 0 (now (g .o)), union-start 0 (now (g .o)), omega arith, one-bit (g .x) (c .pre .0))
 
 slice-read-if1 : tie.Need-slice-read-if1 Inv-loop μ-loop
 slice-read-if1 c = omega (arith, c .before .before .loop .inv .0 .size)
@@ -44,7 +44,7 @@ add-i : tie.Need-add-i Inv-loop μ-loop
 add-i c = search needs
 
 loop-less : tie.Need-loop-less Inv-loop μ-loop
-loop-less c = search needs
+loop-less c = omega (arith, c .before .before .before .loop-test .taken)
 
 loop-again : tie.Need-loop-again Inv-loop μ-loop
 loop-again c =
@@ -61,7 +61,7 @@ loop-again c =
     ⊎-elim (λ a. a .2 ∙ kept (g .x) (g .b) is was one (l .inv .3) old (a .0 .taken)) (λ a. a .2 ∙ added (g .x) (g .b) is was one (l .inv .3) old (a .0 .left)) (c .before .if1 .came) in (
       made-more (ClearedAt (g .x) (g .b) (now (g .o))) 0 (l .i) (now (g .o)) (l .o) new (omega arith) h here (l .inv .0),
       union-more (l .i) 0 (l .o) (l .u) new (omega (arith, h, l .inv .0 .size)) (l .inv .1),
-      search needs,
+      omega (arith, c .before .before .before .loop-test .taken),
       l .inv .3,
     )
 
@@ -71,7 +71,7 @@ same-length c = c .before .loop .inv .0 .size
 returns : tie.Need-returns Inv-loop μ-loop
 returns c =
     let l = c .before .loop in
-    let e : c .before .before .args .n ≡ l .i = search needs in
+    let e : c .before .before .args .n ≡ l .i = omega (arith, c .loop-test .left, c .before .loop .inv .2) in
     (record { done = λ j h. l .inv .0 .done j (omega arith) (omega arith); rest = λ j h. l .inv .0 .rest j (inr (omega arith)) }, λ j y a h. l .inv .1 j y a (omega arith))
 
 pub sweep-spec : {M : Type 1} → statement M

@@ -26,7 +26,7 @@ abbrev μ-loop : tie.MeasureT-loop
 μ-loop codes m₀ n base r w x₀ end additions₀ l₀ m x additions l = end - l
 
 slice-aggregate-copy-row : tie.Need-slice-aggregate-copy-row Inv-loop μ-loop
-slice-aggregate-copy-row c = search needs
+slice-aggregate-copy-row c = refl
 
 add-copy-row : tie.Need-add-copy-row Inv-loop μ-loop
 add-copy-row c =
@@ -62,7 +62,7 @@ loop-holds c =
       refl,
       fit,
       refl,
-      search needs,
+      omega arith,
       omega (arith, c .pow2 .ensures, h₁),
     )
 
@@ -87,7 +87,7 @@ add-l c =
     omega (arith, small (s .args .r) (l .l) (s .pre .3) (omega (arith, c .before .before .before .before .before .loop-test .taken, c .before .before .before .before .before .before .before .pow2 .ensures)))
 
 loop-less : tie.Need-loop-less Inv-loop μ-loop
-loop-less c = search needs
+loop-less c = omega (arith, c .before .before .before .before .before .loop-test .taken)
 
 loop-again : tie.Need-loop-again Inv-loop μ-loop
 loop-again c =
@@ -114,7 +114,7 @@ loop-again c =
       ap (rowsOf (a .w) (a .n)) (k .ensures .2)
           ∙ rows-past (a .w) (a .n) (l .m) (g * a .w) (rowAt 0 (a .w) x′) (a .w) (mul-le-mul-right (a .w) past) (ends g N (a .w) (length (l .m)) hg hm) ∙ l .inv .2,
       ap (drop (N * a .w)) (k .ensures .2) ∙ rest-paste (a .w) N g (l .m) (rowAt 0 (a .w) x′) hg hm lx ∙ l .inv .3,
-      search needs,
+      c .before .before .step .kept .1 .0 ∙ c .before .before .before .before .before .before .loop .inv .4,
       fits-fit m′ (c .slice-known2 .given),
       omega (arith, l .inv .6, l .inv .7),
       omega (arith, l .inv .7),
@@ -122,7 +122,7 @@ loop-again c =
     )
 
 same-length : tie.Need-same-length Inv-loop μ-loop
-same-length c = search needs
+same-length c = c .before .loop .inv .4
 
 returns : tie.Need-returns Inv-loop μ-loop
 returns c =

@@ -4,7 +4,6 @@ use mathlib.Core.Path.{refl, ap, _∙_}
 use mathlib.Core.List.{List}
 use Prim.Native.Nat.{ℕ, _+_, _<_}
 use native.Mathlib.Omega.{arith}
-use borrow.Author.Needs.{needs}
 use lib.ListN.{getD}
 use lib.Seq.{getD-set-other}
 use Rattle.gf2.proofs.Space.{same-refl}
@@ -14,10 +13,10 @@ use Rattle.engine.proofs.search.column.Statement.{statement}
 use Rattle.engine.proofs.search.column.Tie as tie
 
 cast-if1 : tie.Need-cast-if1
-cast-if1 c = search needs
+cast-if1 c = let p = c .before .before .before .before .pre in omega (arith, p .2, p .3)
 
 shr-if1 : tie.Need-shr-if1
-shr-if1 c = search needs
+shr-if1 c = let p = c .before .before .before .before .pre in omega (arith, p .2, p .3)
 
 returns : tie.Need-returns
 returns c =
@@ -32,13 +31,13 @@ returns c =
     )
 
 add-find : tie.Need-add-find
-add-find c = search needs
+add-find c = let p = c .before .before .before .before .before .before .pre in omega (arith, p .4 .room, p .0 .few)
 
 find-requires : tie.Need-find-requires
-find-requires c κs = search needs
+find-requires c κs = let p = c .before .before .before .before .before .before .pre in (omega (arith, p .2, p .3), p .4 .room, p .4 .long-o)
 
 same-length : tie.Need-same-length
-same-length c = search needs
+same-length c = refl
 
 returns-2 : tie.Need-returns-2
 returns-2 c =
@@ -60,19 +59,19 @@ take-requires c κs =
     (p .0, p .1, p .2, p .3, f .low, lt, f .one lt, p .4)
 
 add-t22 : tie.Need-add-t22
-add-t22 c = search needs
+add-t22 c = let p = c .before .before .before .before .before .before .before .before .before .before .before .before .before .before .before .before .before .before .before .before .before .pre in omega (arith, p .4 .few, p .2, p .3)
 
 same-length-2 : tie.Need-same-length-2
-same-length-2 c = search needs
+same-length-2 c = c .before .before .before .before .before .before .before .before .take .kept .0
 
 same-length-3 : tie.Need-same-length-3
-same-length-3 c = search needs
+same-length-3 c = c .before .before .before .before .before .before .before .before .take .kept .1 .1 .1 .1 .1 .1 .1 .1 .1 .0
 
 same-length-4 : tie.Need-same-length-4
-same-length-4 c = search needs
+same-length-4 c = c .before .before .before .before .before .before .before .before .take .kept .1 .1 .1 .1 .1 .1 .1 .1 .1 .1 .0
 
 same-length-5 : tie.Need-same-length-5
-same-length-5 c = search needs
+same-length-5 c = c .before .before .before .before .before .before .before .before .take .kept .1 .1 .1 .1 .1 .1 .1 .1 .1 .1 .1 .0
 
 returns-3 : tie.Need-returns-3
 returns-3 c =

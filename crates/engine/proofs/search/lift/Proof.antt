@@ -3,7 +3,6 @@ use denote.Ref.{now}
 use mathlib.Core.Path.{_≡_, refl, _∙_, subst}
 use Prim.Native.Nat.{ℕ, _-_, _*_, _≤_}
 use native.Mathlib.Omega.{arith}
-use borrow.Author.Needs.{needs}
 use lib.ListN.{length, drop}
 use Rattle.words.specs.Words.{rowsOf}
 use Rattle.words.proofs.Rows.{length-rows}
@@ -19,13 +18,13 @@ abbrev μ-loop : tie.MeasureT-loop
 μ-loop m₀ w n c base s l₀ m l = s - l
 
 loop-holds : tie.Need-loop-holds Inv-loop μ-loop
-loop-holds c = let g = c .before .args in (lift-start (g .c) (g .base) (g .s) (rowsOf (g .w) (g .n) (now (g .m))), refl, search needs, refl)
+loop-holds c = let g = c .before .args in (lift-start (g .c) (g .base) (g .s) (rowsOf (g .w) (g .n) (now (g .m))), refl, omega arith, refl)
 
 add-clear-row : tie.Need-add-clear-row Inv-loop μ-loop
-add-clear-row c = search needs
+add-clear-row c = let p = c .before .before .before .before .pre in omega (arith, p .1, p .0 .few)
 
 add-clear-row-2 : tie.Need-add-clear-row-2 Inv-loop μ-loop
-add-clear-row-2 c = search needs
+add-clear-row-2 c = let p = c .before .before .before .before .pre in omega (arith, p .1, p .0 .few, c .before .loop-test .taken)
 
 clear-row-requires : tie.Need-clear-row-requires Inv-loop μ-loop
 clear-row-requires c κs =
@@ -34,10 +33,10 @@ clear-row-requires c κs =
     (omega (arith, p .0 .fits, c .before .before .loop .inv .3), p .2, p .1, omega (arith, t), omega (arith, t))
 
 add-l : tie.Need-add-l Inv-loop μ-loop
-add-l c = search needs
+add-l c = let p = c .before .before .before .before .before .before .before .pre in omega (arith, p .1, p .0 .few, c .before .before .before .before .loop-test .taken)
 
 loop-less : tie.Need-loop-less Inv-loop μ-loop
-loop-less c = search needs
+loop-less c = omega (arith, c .before .before .before .before .loop-test .taken)
 
 loop-again : tie.Need-loop-again Inv-loop μ-loop
 loop-again c =
@@ -47,18 +46,18 @@ loop-again c =
       lift-more (g .c) (g .base) (g .s) (l .l) (rowsOf (g .w) (g .n) (now (g .m))) (rowsOf (g .w) (g .n) (l .m)) (rowsOf (g .w) (g .n) (c .before .before .clear-row .last .0)) (c .before .before .before .before .loop-test .taken)
           (rw length-rows (c .before .before .before .before .before .before .before .pre .1)) (l .inv .0) (e .rows),
       e .past ∙ l .inv .1,
-      search needs,
-      search needs,
+      omega (arith, c .before .before .before .before .loop-test .taken),
+      c .before .before .clear-row .kept .0 ∙ c .before .before .before .before .before .loop .inv .3,
     )
 
 same-length : tie.Need-same-length Inv-loop μ-loop
-same-length c = search needs
+same-length c = c .before .loop .inv .3
 
 returns : tie.Need-returns Inv-loop μ-loop
 returns c =
     let g = c .before .before .before .args in
     let l = c .before .loop in
-    let e : l .l ≡ g .s = search needs in
+    let e : l .l ≡ g .s = omega (arith, c .loop-test .left, c .before .loop .inv .2) in
     (subst (λ (k : ℕ). Lifted (g .c) (g .base) (g .s) k (rowsOf (g .w) (g .n) (now (g .m))) (rowsOf (g .w) (g .n) (l .m))) e (l .inv .0), l .inv .1)
 
 pub lift-spec : {M : Type 1} → statement M

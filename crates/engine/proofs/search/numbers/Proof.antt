@@ -5,7 +5,6 @@ use mathlib.Core.List.{List}
 use mathlib.Core.Logic.{⊎-elim}
 use Prim.Native.Nat.{ℕ, _+_, _<_, _≤_}
 use native.Mathlib.Omega.{arith}
-use borrow.Author.Needs.{needs}
 use lib.ListN.{length, getD}
 use Rattle.gf2.specs.Rows.{row}
 use Rattle.words.specs.Words.{rowsOf, windowBits}
@@ -14,13 +13,13 @@ use Rattle.engine.proofs.search.numbers.Statement.{statement}
 use Rattle.engine.proofs.search.numbers.Tie as tie
 
 read-requires : tie.Need-read-requires
-read-requires c κs = search needs
+read-requires c κs = let p = c .before .before .before .before .pre in (p .0, p .1, p .2, p .3, omega arith, omega (arith, p .5), p .6)
 
 gather-all-requires : tie.Need-gather-all-requires
-gather-all-requires c κs = search needs
+gather-all-requires c κs = let p = c .before .before .before .before .before .before .before .before .before .pre in (omega (arith, c .before .before .before .before .read .kept .1 .1 .1 .1 .1 .1 .1 .0, p .6), omega (arith, p .5, p .7), p .3, p .4, p .8)
 
 add-blank : tie.Need-add-blank
-add-blank c = search needs
+add-blank c = let p = c .before .before .before .before .before .before .before .before .before .pre in omega (arith, p .5, p .0 .few)
 
 blank-requires : tie.Need-blank-requires
 blank-requires c κs =

@@ -3,7 +3,6 @@ use denote.Ref.{now}
 use mathlib.Core.Path.{_≡_, refl, sym, ap, _∙_, subst}
 use Prim.Native.Nat.{ℕ, _-_, _<_, _≤_}
 use native.Mathlib.Omega.{arith}
-use borrow.Author.Needs.{needs}
 use lib.ListN.{length, length-set}
 use Rattle.gf2.specs.Rows.{row}
 use Rattle.words.specs.Words.{rowsOf, windowBits}
@@ -19,7 +18,7 @@ abbrev μ-loop : tie.MeasureT-loop
 μ-loop m w n c k from to h₀ u₀ i₀ h u i = to - i
 
 loop-holds : tie.Need-loop-holds Inv-loop μ-loop
-loop-holds c = let g = c .before .before .args in (reading-start (λ j. windowBits (g .c) (g .k) (row (rowsOf (g .w) (g .n) (now (g .m))) j)) (g .from) (g .to) (now (g .h)), search needs, search needs, refl)
+loop-holds c = let g = c .before .before .args in (reading-start (λ j. windowBits (g .c) (g .k) (row (rowsOf (g .w) (g .n) (now (g .m))) j)) (g .from) (g .to) (now (g .h)), omega arith, c .before .before .pre .4, refl)
 
 byte-requires : tie.Need-byte-requires Inv-loop μ-loop
 byte-requires c κs =
@@ -28,13 +27,13 @@ byte-requires c κs =
     (p .1, p .2, p .3, omega (arith, row-ends (c .before .loop .i) (g .n) (g .w) (omega (arith, c .loop-test .taken, p .5)), p .0 .fits))
 
 slice-write-h : tie.Need-slice-write-h Inv-loop μ-loop
-slice-write-h c = search needs
+slice-write-h c = let p = c .before .before .before .before .before .pre in omega (arith, c .before .loop-test .taken, p .5, p .6, c .before .before .loop .inv .3)
 
 add-i : tie.Need-add-i Inv-loop μ-loop
-add-i c = search needs
+add-i c = let p = c .before .before .before .before .before .pre in omega (arith, c .before .loop-test .taken, p .5, p .0 .few)
 
 loop-less : tie.Need-loop-less Inv-loop μ-loop
-loop-less c = search needs
+loop-less c = omega (arith, c .before .loop-test .taken)
 
 loop-again : tie.Need-loop-again Inv-loop μ-loop
 loop-again c =
@@ -45,19 +44,19 @@ loop-again c =
       reading-more (λ j. windowBits (g .c) (g .k) (row (rowsOf (g .w) (g .n) (now (g .m))) j)) (g .from) (g .to) (l .i) (now (g .h)) (l .h) (l .u) (c .byte .result)
           (omega (arith, lt, l .inv .3, p .6)) (c .before .loop-test .taken)
           (c .byte .ensures ∙ ap (windowBits (g .c) (g .k)) (sym (getD-rows (g .w) (g .n) (now (g .m)) (l .i) lt))) (l .inv .0),
-      search needs,
-      search needs,
+      omega (arith, c .before .before .loop .inv .1),
+      omega (arith, c .before .loop-test .taken),
       rw length-set (l .inv .3),
     )
 
 same-length : tie.Need-same-length Inv-loop μ-loop
-same-length c = search needs
+same-length c = c .before .loop .inv .3
 
 returns : tie.Need-returns Inv-loop μ-loop
 returns c =
     let g = c .before .before .before .before .args in
     let l = c .before .loop in
-    let e : l .i ≡ g .to = search needs in
+    let e : l .i ≡ g .to = omega (arith, c .loop-test .left, c .before .loop .inv .2) in
     let R = subst (λ (i : ℕ). Reading (λ j. windowBits (g .c) (g .k) (row (rowsOf (g .w) (g .n) (now (g .m))) j)) (g .from) (g .to) i (now (g .h)) (l .h) (l .u)) e (l .inv .0) in
     (R .done, R .rest, R .union)
 

@@ -22,13 +22,13 @@ abbrev μ-loop : tie.MeasureT-loop
 μ-loop m₀ w n c k base h₀ o₀ cols₀ u a₀ x₀ m h o cols a x = k - x
 
 blank-requires : tie.Need-blank-requires Inv-loop μ-loop
-blank-requires c κs = search needs
+blank-requires c κs = let p = c .before .before .before .before .before .pre in (omega arith, omega (arith, p .6 .room, p .5))
 
 read-requires : tie.Need-read-requires Inv-loop μ-loop
-read-requires c κs = search needs
+read-requires c κs = let p = c .before .before .before .before .before .before .before .before .before .before .pre in (p .0, p .1, p .2, p .3, p .6 .room, omega arith, p .4)
 
 copy-bytes-requires : tie.Need-copy-bytes-requires Inv-loop μ-loop
-copy-bytes-requires c κs = search needs
+copy-bytes-requires c κs = let p = c .before .before .before .before .before .before .before .before .before .before .before .before .before .before .before .pre in (p .6 .room, omega (arith, c .before .before .before .before .before .before .before .before .before .blank .kept .0, p .5), omega (arith, c .before .before .before .before .read .kept .1 .1 .1 .1 .1 .1 .1 .0, p .4))
 
 loop-holds : tie.Need-loop-holds Inv-loop μ-loop
 loop-holds c =
@@ -65,25 +65,26 @@ add-x : tie.Need-add-x Inv-loop μ-loop
 add-x c = omega (arith, c .before .before .before .before .before .before .before .before .before .before .before .before .before .loop-test .taken, c .before .before .before .before .before .before .before .before .before .before .before .before .before .before .before .before .before .before .before .before .before .before .before .before .before .before .before .before .before .before .before .before .before .pre .3)
 
 loop-less : tie.Need-loop-less Inv-loop μ-loop
-loop-less c = search needs
+loop-less c = omega (arith, c .before .before .before .before .before .before .before .before .before .before .before .before .before .loop-test .taken)
 
 loop-again : tie.Need-loop-again Inv-loop μ-loop
 loop-again c =
-    let e = c .before .before .before .before .before .before .before .before .column .ensures in
+    let k = c .before .before .before .before .before .before .before .before .column in
+    let e = k .ensures in
     let v = c .before .before .before .before .before .before .before .before .before .before .before .before .before .before .loop .inv in
-    (e .0, e .1, same-trans (v .2) (e .2), λ i l. e .3 i l ∙ v .3 i l, e .4 ∙ v .4, search needs, search needs, search needs, search needs, search needs)
+    (e .0, e .1, same-trans (v .2) (e .2), λ i l. e .3 i l ∙ v .3 i l, e .4 ∙ v .4, omega (arith, c .before .before .before .before .before .before .before .before .before .before .before .before .before .loop-test .taken), k .kept .0 ∙ v .6, k .kept .1 .1 .1 .1 .1 .1 .1 .1 .0 ∙ v .7, k .kept .1 .1 .1 .1 .1 .1 .1 .1 .1 .0 ∙ v .8, k .kept .1 .1 .1 .1 .1 .1 .1 .1 .1 .1 .0 ∙ v .9)
 
 same-length : tie.Need-same-length Inv-loop μ-loop
-same-length c = search needs
+same-length c = c .before .loop .inv .6
 
 same-length-2 : tie.Need-same-length-2 Inv-loop μ-loop
-same-length-2 c = search needs
+same-length-2 c = c .before .loop .inv .7 ∙ c .before .before .before .before .before .before .before .before .before .read .kept .1 .1 .1 .1 .1 .1 .1 .0
 
 same-length-3 : tie.Need-same-length-3 Inv-loop μ-loop
-same-length-3 c = search needs
+same-length-3 c = c .before .loop .inv .8 ∙ c .before .before .before .before .copy-bytes .kept .0 ∙ c .before .before .before .before .before .before .before .before .before .before .before .before .before .before .blank .kept .0
 
 same-length-4 : tie.Need-same-length-4 Inv-loop μ-loop
-same-length-4 c = search needs
+same-length-4 c = c .before .loop .inv .9
 
 returns : tie.Need-returns Inv-loop μ-loop
 returns c =

@@ -4,7 +4,6 @@ use mathlib.Core.Path.{_≡_, refl, sym, ap, _∙_, subst}
 use mathlib.Core.List.{List}
 use Prim.Native.Nat.{ℕ, _+_, _-_, _*_, _/_, _<_, _≤_}
 use native.Mathlib.Omega.{arith}
-use borrow.Author.Needs.{needs}
 use lib.ListN.{length, set, drop}
 use Rattle.gf2.specs.Rows.{bit, _⊕_, row, pick}
 use Rattle.words.specs.Words.{rowsOf}
@@ -21,22 +20,22 @@ abbrev μ-loop : tie.MeasureT-loop
 μ-loop m₀ w n base s cols i l₀ m l = s - l
 
 loop-holds : tie.Need-loop-holds Inv-loop μ-loop
-loop-holds c = let g = c .before .before .args in (settle-start (g .base) (g .s) (g .i) (rowsOf (g .w) (g .n) (now (g .m))) (now (g .cols)), refl, search needs, refl)
+loop-holds c = let g = c .before .before .args in (settle-start (g .base) (g .s) (g .i) (rowsOf (g .w) (g .n) (now (g .m))) (now (g .cols)), refl, omega arith, refl)
 
 add-wide : tie.Need-add-wide Inv-loop μ-loop
-add-wide c = search needs
+add-wide c = let p = c .before .before .before .before .pre in omega (arith, p .1, p .2, p .0 .few, c .loop-test .taken)
 
 mul-wide : tie.Need-mul-wide Inv-loop μ-loop
-mul-wide c = search needs
+mul-wide c = let p = c .before .before .before .before .pre in omega (arith, p .1, p .2, p .0 .few, c .loop-test .taken)
 
 shared-slice-read-wide : tie.Need-shared-slice-read-wide Inv-loop μ-loop
-shared-slice-read-wide c = search needs
+shared-slice-read-wide c = let p = c .before .before .before .before .before .pre in omega (arith, p .1, p .2, p .3, c .before .loop-test .taken)
 
 wide-requires : tie.Need-wide-requires Inv-loop μ-loop
-wide-requires c κs = search needs
+wide-requires c κs = tt
 
 add-clear-row : tie.Need-add-clear-row Inv-loop μ-loop
-add-clear-row c = search needs
+add-clear-row c = let p = c .before .before .before .before .before .before .before .pre in omega (arith, p .1, p .2, p .0 .few, c .before .before .before .loop-test .taken)
 
 clear-row-requires : tie.Need-clear-row-requires Inv-loop μ-loop
 clear-row-requires c κs =
@@ -47,10 +46,10 @@ clear-row-requires c κs =
     (omega (arith, p .0 .fits, l .inv .3), subst (λ (q : ℕ). q / 64 < g .w) (sym (c .before .wide .ensures)) (p .4 .wide (l .l) t), omega (arith, t), p .2, omega (arith, t))
 
 add-l : tie.Need-add-l Inv-loop μ-loop
-add-l c = search needs
+add-l c = let p = c .before .before .before .before .before .before .before .before .before .before .pre in omega (arith, p .1, p .2, p .0 .few, c .before .before .before .before .before .before .loop-test .taken)
 
 loop-less : tie.Need-loop-less Inv-loop μ-loop
-loop-less c = search needs
+loop-less c = omega (arith, c .before .before .before .before .before .before .loop-test .taken)
 
 loop-again : tie.Need-loop-again Inv-loop μ-loop
 loop-again c =
@@ -63,18 +62,18 @@ loop-again c =
           (rw length-rows (p .2)) (l .inv .0)
           (e .rows ∙ ap (λ (q : ℕ). set N (g .i) (row N (g .i) ⊕ pick (bit q (row N (g .i))) (row N (g .base + l .l)))) (c .before .before .before .before .wide .ensures)),
       e .past ∙ l .inv .1,
-      search needs,
-      search needs,
+      omega (arith, c .before .before .before .before .before .before .loop-test .taken),
+      c .before .before .clear-row .kept .0 ∙ l .inv .3,
     )
 
 same-length : tie.Need-same-length Inv-loop μ-loop
-same-length c = search needs
+same-length c = c .before .loop .inv .3
 
 returns : tie.Need-returns Inv-loop μ-loop
 returns c =
     let g = c .before .before .before .before .args in
     let l = c .before .loop in
-    let e : l .l ≡ g .s = search needs in
+    let e : l .l ≡ g .s = omega (arith, c .loop-test .left, l .inv .2) in
     (subst (λ (k : ℕ). Settled (g .base) (g .s) k (g .i) (rowsOf (g .w) (g .n) (now (g .m))) (now (g .cols)) (rowsOf (g .w) (g .n) (l .m))) e (l .inv .0), l .inv .1)
 
 pub settle-spec : {M : Type 1} → statement M

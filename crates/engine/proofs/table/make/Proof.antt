@@ -15,7 +15,6 @@ use lib.ListN.{length, drop}
 use mathlib.Core.List.{List}
 use mathlib.Core.Path.{_≡_, refl, sym, ap, _∙_, subst}
 use denote.Ref.{now}
-use borrow.Author.Needs.{needs}
 use native.Mathlib.Omega.{arith}
 use Rattle.engine.proofs.table.make.Statement.{statement}
 use Rattle.engine.proofs.table.make.Tie as tie
@@ -27,7 +26,7 @@ abbrev μ-loop : tie.MeasureT-loop
 μ-loop codes t₀ m n base r w x₀ end additions₀ l₀ t x additions l = end - l
 
 slice-aggregate-copy-row : tie.Need-slice-aggregate-copy-row Inv-loop μ-loop
-slice-aggregate-copy-row c = search needs
+slice-aggregate-copy-row c = refl
 
 copy-row-requires : tie.Need-copy-row-requires Inv-loop μ-loop
 copy-row-requires c κs =
@@ -35,7 +34,7 @@ copy-row-requires c κs =
     (omega (arith, s .pre .0 .narrow), ends 1 (2 ^ s .args .r) (s .args .w) (length (now (s .args .t))) (pow-two (s .args .r) (s .pre .2)) (s .pre .4))
 
 pow2-requires : tie.Need-pow2-requires Inv-loop μ-loop
-pow2-requires c κs = search needs
+pow2-requires c κs = c .before .before .before .before .before .before .pre .3
 
 loop-holds : tie.Need-loop-holds Inv-loop μ-loop
 loop-holds c =
@@ -52,7 +51,7 @@ loop-holds c =
       refl,
       refl,
       refl,
-      search needs,
+      omega arith,
       omega (arith, c .pow2 .ensures, h₁),
     )
 
@@ -75,7 +74,7 @@ add-l c =
     omega (arith, small (s .args .r) (l .l) (s .pre .3) (omega (arith, c .before .before .before .before .before .loop-test .taken, c .before .before .before .before .before .before .before .pow2 .ensures)))
 
 loop-less : tie.Need-loop-less Inv-loop μ-loop
-loop-less c = search needs
+loop-less c = omega (arith, c .before .before .before .before .before .loop-test .taken)
 
 loop-again : tie.Need-loop-again Inv-loop μ-loop
 loop-again c =
@@ -98,14 +97,14 @@ loop-again c =
       codes-turn (λ j. j) (λ j k e. e) (a .w) N (l .l) P (l .t) t′ x′ hg ht (s .pre .0 .narrow) (k .ensures .2) loc (l .inv .0),
       loc,
       ap (drop (N * a .w)) (k .ensures .2) ∙ rest-paste (a .w) N (gray (l .l)) (l .t) (rowAt 0 (a .w) x′) hg ht lx ∙ l .inv .2,
-      search needs,
+      c .before .before .step .kept .1 .0 ∙ c .before .before .before .before .before .before .loop .inv .3,
       omega (arith, l .inv .4, l .inv .5),
       omega (arith, l .inv .5),
       omega (arith, c .before .before .before .before .before .loop-test .taken),
     )
 
 same-length : tie.Need-same-length Inv-loop μ-loop
-same-length c = search needs
+same-length c = c .before .loop .inv .3
 
 returns : tie.Need-returns Inv-loop μ-loop
 returns c =

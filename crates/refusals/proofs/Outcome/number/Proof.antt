@@ -12,7 +12,7 @@ enum-known-self : tie.Need-enum-known-self
 enum-known-self c = search needs
 
 number-requires : tie.Need-number-requires
-number-requires c κs = search needs
+number-requires c κs = tt
 
 returns : tie.Need-returns
 returns c = search needs
