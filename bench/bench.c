@@ -684,6 +684,10 @@ int main(int argc, char **argv)
     if (argc > 2)
         part = argv[2];
     printf("%-22s %5s %8s %8s    %-24s %6s\n", "problem", "rank", "k = 8", "k = 7", "libm4ri's best", "rounds");
+    for (int n = 32; n <= ROWS && !strcmp(part, "growing"); n += 32) { // for the picture alone
+        snprintf(name, sizeof name, "growing %dx%d", n, 2 * n);
+        failed |= attempt(&reduce, name, n, 2 * n, uniform, 1024 + (size_t)n);
+    }
     for (size_t s = 0; s < sizeof shapes / sizeof *shapes; s++)
         for (size_t l = 0; l < sizeof kinds / sizeof *kinds; l++) {
             snprintf(name, sizeof name, "%dx%d %s", shapes[s][0], shapes[s][1], kinds[l].name);

@@ -11,7 +11,7 @@ ghost use Rattle.desk.specs.Desk.{tableRows, refusedText, Shows, reduced
 use bundle::Told;
 use refusals::Refusal;
 
-// k of the programs
+// the window of all programs
 pub const K: usize = 4;
 
 pub enum Reduced {
@@ -84,6 +84,7 @@ pub fn reduce_entry(bytes: &[u8], i: usize, words: &mut [u64], room: &mut [u64])
             if words.len() < n {
                 return Reduced::Unfit;
             }
+            // a table of windows of K columns has 16 rows
             if room.len() < 16 * w {
                 return Reduced::Unfit;
             }

@@ -75,6 +75,7 @@ fn entry(
 {
     let r = desk::reduce_entry(bytes, i, words, room);
     match r {
+        // neither can be: the bundle has been read, and the buffers are long enough for every entry
         Reduced::Refused(_) => p,
         Reduced::Unfit => p,
         Reduced::Entry {

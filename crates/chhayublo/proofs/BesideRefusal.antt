@@ -1,0 +1,43 @@
+-- Answers beside a refusal: its number, and zeros.
+use mathlib.Core.Path.{_≡_, sym, ap, _∙_}
+use Prim.Native.Nat.{ℕ}
+use Rattle.refusals.specs.declared.Refusal.{Refusal}
+use Rattle.refusals.specs.Outcome.{numberOf}
+use Rattle.packets.specs.declared.Verdict.{Verdict}
+use Rattle.packets.specs.declared.Verdict.the-variants as verdict
+use Rattle.bundle.specs.declared.Counted.{Counted}
+use Rattle.bundle.specs.declared.Counted.the-variants as counted
+use Rattle.bundle.specs.declared.Told.{Told}
+use Rattle.bundle.specs.declared.Told.the-variants as told
+use Rattle.pack.specs.declared.Written.{Written}
+use Rattle.pack.specs.declared.Written.the-variants as written
+use Rattle.chhayublo.specs.declared.Names.{Names}
+use Rattle.chhayublo.specs.declared.Count.{Count}
+use Rattle.chhayublo.specs.declared.Entry.{Entry}
+use Rattle.chhayublo.specs.declared.Length.{Length}
+use Rattle.chhayublo.specs.Calls.{seenVerdict, seenCount, seenEntry, seenLength}
+
+abbrev noNames : ℕ → Names
+noNames n = record { refusal = n; named = 0 }
+
+abbrev noCount : ℕ → Count
+noCount n = record { refusal = n; entries = 0 }
+
+abbrev noEntry : ℕ → Entry
+noEntry n = record { refusal = n; kind = 0; rows = 0; columns = 0 }
+
+abbrev noLength : ℕ → Length
+noLength n = record { refusal = n; bytes = 0 }
+
+module _ {n : ℕ} {r : Refusal} (e : n ≡ numberOf r) where
+  pub names-refused : {v : Verdict} → v ≡ verdict.Refused r → noNames n ≡ seenVerdict v
+  names-refused f = ap noNames e ∙ sym (ap seenVerdict f)
+
+  pub count-refused : {c : Counted} → c ≡ counted.Refused r → noCount n ≡ seenCount c
+  count-refused f = ap noCount e ∙ sym (ap seenCount f)
+
+  pub entry-refused : {t : Told} → t ≡ told.Refused r → noEntry n ≡ seenEntry t
+  entry-refused f = ap noEntry e ∙ sym (ap seenEntry f)
+
+  pub length-refused : {w : Written} → w ≡ written.Refused r → noLength n ≡ seenLength w
+  length-refused f = ap noLength e ∙ sym (ap seenLength f)

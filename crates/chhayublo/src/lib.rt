@@ -1,0 +1,251 @@
+// The calls with C's calling convention. A slice is passed as a pointer and a length, an array as a pointer; include/chhayublo.h declares all of it for C.
+ghost use mathlib.Core.Path.{_≡_};
+ghost use lib.ListN.{length};
+ghost use Rattle.gf2.specs.Rows.{part};
+ghost use Rattle.words.specs.Words.{wordsOf};
+ghost use Rattle.refusals.specs.declared.Outcome.{Outcome};
+ghost use Rattle.refusals.specs.Outcome.{outcomeNumber};
+ghost use Rattle.refusals.specs.Checks.{viewChecks};
+ghost use Rattle.matrix.specs.declared.Answer as matrix;
+ghost use Rattle.matrix.specs.Calls.{rowView, reduction};
+ghost use Rattle.inverse.specs.Calls.{inversion};
+ghost use Rattle.packets.specs.declared.Verdict.{Verdict};
+ghost use Rattle.packets.specs.Solving.{solving};
+ghost use Rattle.packets.specs.Contradiction.{naming};
+ghost use Rattle.bundle.specs.Bundle.{bothKinds, meaning};
+ghost use Rattle.bundle.specs.Answers.{countedIn, find, toldOf, lentFor, unpackedOf};
+ghost use Rattle.pack.specs.Encode.{encode};
+ghost use Rattle.pack.specs.Writing.{given, bundleBytes, writeChecks, writtenBy, outputBy};
+ghost use Rattle.chhayublo.specs.Calls.{rowAt, seenAnswer, seenVerdict, seenCount, seenEntry, seenLength};
+use bundle::Counted;
+use bundle::Told;
+use pack::Written;
+use packets::Verdict;
+
+// where a row stands in the caller's words: its first word, and how many words it has; 0 and 0 where the view is refused
+#[repr(C)]
+pub struct Row {
+    pub start: usize,
+    pub words: usize,
+}
+
+// what reduction and solving answer; refusal is its number, or 0
+#[repr(C)]
+pub struct Answer {
+    pub refusal: u64,
+    pub rank: usize,
+    pub known: usize,
+    pub additions: usize,
+    pub pivots: [u16; 512],
+}
+
+// what the contradiction call answers: named is 1 where packets have been named, else 0
+#[repr(C)]
+pub struct Names {
+    pub refusal: u64,
+    pub named: u64,
+}
+
+// how many entries a bundle has
+#[repr(C)]
+pub struct Count {
+    pub refusal: u64,
+    pub entries: usize,
+}
+
+// an entry's three numbers
+#[repr(C)]
+pub struct Entry {
+    pub refusal: u64,
+    pub kind: u64,
+    pub rows: u64,
+    pub columns: u64,
+}
+
+// how many bytes a written bundle has
+#[repr(C)]
+pub struct Length {
+    pub refusal: u64,
+    pub bytes: usize,
+}
+
+#[no_mangle]
+pub extern "C" fn chhayublo_row_view(m: &[u64], rows: usize, columns: usize, i: usize) -> Row
+    ensures { λ r. ⌜ (r ≡ rowAt (viewChecks rows columns (length (now (m .entry))) i) i (wordsOf columns)) × (part (r .start) (r .words) (now (m .entry)) ≡ rowView rows columns i (now (m .entry))) ⌝ }
+{
+    let shown = matrix::row_view(m, rows, columns, i);
+    let words = shown.len();
+    if words == 0 {
+        return Row { start: 0, words: 0 };
+    }
+    Row {
+        start: i * words,
+        words: words,
+    }
+}
+
+// an answer as C sees it
+fn seen(a: matrix::Answer) -> Answer
+    ensures { λ r. ⌜ r ≡ seenAnswer a ⌝ }
+{
+    let outcome = a.outcome;
+    let pivots = a.pivots;
+    Answer {
+        refusal: outcome.number() as u64,
+        rank: a.rank,
+        known: a.known,
+        additions: a.additions,
+        pivots: pivots,
+    }
+}
+
+#[no_mangle]
+pub extern "C" fn chhayublo_reduce(
+    m: &mut [u64],
+    rows: usize,
+    columns: usize,
+    k: usize,
+    room: &mut [u64],
+) -> Answer
+    ensures { λ r. ⌜ ((a : matrix.Answer) × reduction rows columns k (now (m .entry)) (now (room .entry)) a (now (m .exit)) (now (room .exit)) × (r ≡ seenAnswer a)) ⌝ }
+{
+    seen(matrix::reduce(m, rows, columns, k, room))
+}
+
+#[no_mangle]
+pub extern "C" fn chhayublo_invert(
+    m: &[u64],
+    rows: usize,
+    columns: usize,
+    k: usize,
+    result: &mut [u64],
+    room: &mut [u64],
+) -> u64
+    ensures { λ r. ⌜ ((o : Outcome) × inversion rows columns k (now (m .entry)) (now (result .entry)) (now (room .entry)) o (now (result .exit)) (now (room .exit)) × (r ≡ outcomeNumber o)) ⌝ }
+{
+    let outcome = inverse::invert(m, rows, columns, k, result, room);
+    outcome.number() as u64
+}
+
+#[no_mangle]
+pub extern "C" fn chhayublo_solve(
+    m: &mut [u64],
+    rows: usize,
+    columns: usize,
+    n: usize,
+    k: usize,
+    image: &mut [u64],
+    marks: &mut [u8],
+    room: &mut [u64],
+) -> Answer
+    ensures { λ r. ⌜ ((a : matrix.Answer) × solving rows columns n k (now (m .entry)) (now (image .entry)) (now (marks .entry)) (now (room .entry)) a (now (m .exit)) (now (image .exit)) (now (marks .exit)) (now (room .exit)) × (r ≡ seenAnswer a)) ⌝ }
+{
+    seen(packets::solve(m, rows, columns, n, k, image, marks, room))
+}
+
+#[no_mangle]
+pub extern "C" fn chhayublo_contradiction(
+    m: &[u64],
+    rows: usize,
+    columns: usize,
+    n: usize,
+    k: usize,
+    named: &mut [u64],
+    room: &mut [u64],
+) -> Names
+    ensures { λ r. ⌜ ((v : Verdict) × naming rows columns n k (now (m .entry)) (now (named .entry)) (now (room .entry)) v (now (named .exit)) (now (room .exit)) × (r ≡ seenVerdict v)) ⌝ }
+{
+    let v = packets::contradiction(m, rows, columns, n, k, named, room);
+    match v {
+        Verdict::Named => Names {
+            refusal: 0,
+            named: 1,
+        },
+        Verdict::None => Names {
+            refusal: 0,
+            named: 0,
+        },
+        Verdict::Refused(r) => Names {
+            refusal: refusals::number(r) as u64,
+            named: 0,
+        },
+    }
+}
+
+#[no_mangle]
+pub extern "C" fn chhayublo_bundle_read(bytes: &[u8]) -> Count
+    ensures { λ r. ⌜ r ≡ seenCount (countedIn (meaning bothKinds (now (bytes .entry)))) ⌝ }
+{
+    let c = bundle::read(bytes);
+    match c {
+        Counted::Entries(n) => Count {
+            refusal: 0,
+            entries: n,
+        },
+        Counted::Refused(r) => Count {
+            refusal: refusals::number(r) as u64,
+            entries: 0,
+        },
+    }
+}
+
+// what is told of an entry, as C sees it
+fn seen_entry(t: Told) -> Entry
+    ensures { λ r. ⌜ r ≡ seenEntry t ⌝ }
+{
+    match t {
+        Told::Entry {
+            kind,
+            rows,
+            columns,
+        } => Entry {
+            refusal: 0,
+            kind: kind as u64,
+            rows: rows as u64,
+            columns: columns as u64,
+        },
+        Told::Refused(refusal) => Entry {
+            refusal: refusals::number(refusal) as u64,
+            kind: 0,
+            rows: 0,
+            columns: 0,
+        },
+    }
+}
+
+#[no_mangle]
+pub extern "C" fn chhayublo_bundle_entry(bytes: &[u8], i: usize) -> Entry
+    ensures { λ r. ⌜ r ≡ seenEntry (toldOf (find i (meaning bothKinds (now (bytes .entry))))) ⌝ }
+{
+    seen_entry(bundle::entry(bytes, i))
+}
+
+#[no_mangle]
+pub extern "C" fn chhayublo_bundle_unpack(bytes: &[u8], i: usize, words: &mut [u64]) -> Entry
+    ensures { λ r. ⌜ (r ≡ seenEntry (toldOf (lentFor (length (now (words .entry))) (find i (meaning bothKinds (now (bytes .entry))))))) × (now (words .exit) ≡ unpackedOf (lentFor (length (now (words .entry))) (find i (meaning bothKinds (now (bytes .entry))))) (now (words .entry))) ⌝ }
+{
+    seen_entry(bundle::unpack(bytes, i, words))
+}
+
+#[no_mangle]
+pub extern "C" fn chhayublo_bundle_write(
+    kinds: &[u16],
+    rows: &[u16],
+    columns: &[u16],
+    words: &[u64],
+    out: &mut [u8],
+) -> Length
+    ensures { λ r. ⌜ (r ≡ seenLength (writtenBy (writeChecks bothKinds (now (kinds .entry)) (now (rows .entry)) (now (columns .entry)) (now (words .entry)) (length (now (out .entry)))) (bundleBytes (length (now (kinds .entry))) (length (now (words .entry)))))) × (now (out .exit) ≡ outputBy (writeChecks bothKinds (now (kinds .entry)) (now (rows .entry)) (now (columns .entry)) (now (words .entry)) (length (now (out .entry)))) (encode (given (now (kinds .entry)) (now (rows .entry)) (now (columns .entry)) (now (words .entry)))) (now (out .entry))) ⌝ }
+{
+    let w = pack::write(kinds, rows, columns, words, out);
+    match w {
+        Written::Bytes(n) => Length {
+            refusal: 0,
+            bytes: n,
+        },
+        Written::Refused(r) => Length {
+            refusal: refusals::number(r) as u64,
+            bytes: 0,
+        },
+    }
+}
