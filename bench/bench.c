@@ -13,17 +13,9 @@
 #include <string.h>
 #include <time.h>
 
-enum { ROWS = 512, COLUMNS = 1024, WORDS = COLUMNS / 64, UNUSED = 65535, JUNK = 0xa5 };
-enum { NO_INVERSE = 9, CONTRADICTORY = 10 }; // refusals
+#include "chhayublo.h"
 
-// a slice is a pointer and a length; see `run`
-void bench_reduce(uint64_t *m, size_t m_len, size_t rows, size_t columns, size_t k, uint64_t *room, size_t room_len,
-                  uint16_t *pivots, uint64_t *said);
-void bench_invert(const uint64_t *m, size_t m_len, size_t rows, size_t columns, size_t k, uint64_t *result,
-                  size_t result_len, uint64_t *room, size_t room_len, uint64_t *said);
-void bench_solve(uint64_t *m, size_t m_len, size_t rows, size_t columns, size_t n, size_t k, uint64_t *image,
-                 size_t image_len, uint8_t *marks, size_t marks_len, uint64_t *room, size_t room_len, uint16_t *pivots,
-                 uint64_t *said);
+enum { ROWS = CHHAYUBLO_MAX_ROWS, COLUMNS = CHHAYUBLO_MAX_COLUMNS, WORDS = COLUMNS / 64, JUNK = 0xa5 };
 
 // ---- matrices of bytes, one for each bit: inputs and expected answers
 
@@ -216,8 +208,7 @@ static void expect(void)
 static _Alignas(64) uint64_t fresh[ROWS * WORDS], beside[ROWS * WORDS]; // the input, and with an identity on its right
 static _Alignas(64) uint64_t words[ROWS * WORDS], result[ROWS * WORDS], room[(ROWS + 256) * WORDS];
 static uint8_t marks[ROWS];
-static uint16_t pivot_columns[ROWS];
-static uint64_t said[4];
+static chhayublo_answer said;
 static mzd_t *their_fresh, *theirs, *their_result;
 static int their_rank, their_known;
 
@@ -264,8 +255,7 @@ static void litter(void)
     memset(result, JUNK, sizeof result);
     memset(room, JUNK, sizeof room);
     memset(marks, JUNK, sizeof marks);
-    memset(pivot_columns, JUNK, sizeof pivot_columns);
-    memset(said, JUNK, sizeof said);
+    memset(&said, JUNK, sizeof said);
     mzd_set_ui(their_result, 0);
     their_rank = their_known = -2;
 }
@@ -317,7 +307,7 @@ static size_t table_room(int k) { return width(input.columns) << k; }
 static void reduce_words(int columns, int k)
 {
     size_t rows = (size_t)input.rows, w = width(columns);
-    bench_reduce(words, rows * w, rows, (size_t)columns, (size_t)k, room, w << k, pivot_columns, said);
+    said = chhayublo_reduce(words, rows * w, rows, (size_t)columns, (size_t)k, room, w << k);
 }
 
 static void echelonize(int how, int k)
@@ -340,16 +330,16 @@ static void reduction(int how, int k)
 
 static const char *wrong_reduction(int how, int k)
 {
-    if ((how == OURS ? (int)said[1] : their_rank) != rank)
+    if ((how == OURS ? (int)said.rank : their_rank) != rank)
         return "rank";
     if (!same(how == OURS ? bits_of(words, input.rows, 0, input.columns) : bits_of_theirs(theirs), &reduced))
         return "matrix";
     if (how != OURS)
         return 0;
-    if (said[2] != additions_of(pivots, rank, k))
+    if (said.additions != additions_of(pivots, rank, k))
         return "table additions";
     for (int i = 0; i < ROWS; i++)
-        if (pivot_columns[i] != (i < rank ? pivots[i] : UNUSED))
+        if (said.pivots[i] != (i < rank ? pivots[i] : CHHAYUBLO_NO_PIVOT))
             return "pivots";
     return 0;
 }
@@ -377,7 +367,7 @@ static void inverse(int how, int k)
 {
     size_t n = (size_t)input.rows, len = n * width(input.columns);
     if (how == OURS)
-        bench_invert(words, len, n, n, (size_t)k, result, len, room, inverse_room(k), said);
+        said.refusal = chhayublo_invert(words, len, n, n, (size_t)k, result, len, room, inverse_room(k));
     else if (how == TWO_SLICES)
         reduce_words(2 * input.columns, k);
     else if (k == 0)
@@ -456,8 +446,8 @@ static void solving(int how, int k)
 {
     size_t rows = (size_t)input.rows, columns = (size_t)input.columns, n = (size_t)blocks;
     if (how == OURS) {
-        bench_solve(words, rows * width(input.columns), rows, columns, n, (size_t)k, result, n * width(image.columns), marks,
-                    n, room, table_room(k), pivot_columns, said);
+        said = chhayublo_solve(words, rows * width(input.columns), rows, columns, n, (size_t)k, result,
+                               n * width(image.columns), marks, n, room, table_room(k));
     } else {
         echelonize(how, k);
         their_known = read_off(theirs, their_rank, result, marks);
@@ -469,7 +459,7 @@ static const char *wrong_solving(int how, int k)
     int total = 0;
     for (int j = 0; j < blocks; j++)
         total += known[j];
-    if ((how == OURS ? (int)said[3] : their_known) != total)
+    if ((how == OURS ? (int)said.known : their_known) != total)
         return "number of known blocks";
     if (memcmp(marks, known, (size_t)blocks))
         return "marks";
@@ -522,7 +512,7 @@ static const call invert = {.first = AS_REDUCTION,
                             .run = inverse,
                             .room = inverse_room,
                             .wrong = wrong_inverse,
-                            .refusal = NO_INVERSE,
+                            .refusal = CHHAYUBLO_NO_INVERSE,
                             .refusing_end = THEIRS,
                             .lines = {{"", CALL, THEIRS, PLUQ},
                                       {", mzd_inv", CALL, THEIRS, GIVEN_K},
@@ -532,7 +522,7 @@ static const call solve = {.first = CALL,
                            .run = solving,
                            .room = table_room,
                            .wrong = wrong_solving,
-                           .refusal = CONTRADICTORY,
+                           .refusal = CHHAYUBLO_CONTRADICTORY,
                            .refusing_end = METHODS,
                            .lines = {{"", CALL, THEIRS, METHODS}}};
 
@@ -566,7 +556,7 @@ static const char *wrong(const call *c, int x, int spoiled)
     run(c, x);
     if (how == OURS && !room_clean(c->room(k)))
         return "work room";
-    if ((how == OURS || how == TWO_SLICES) && said[0] != (spoiled ? (uint64_t)c->refusal : 0))
+    if ((how == OURS || how == TWO_SLICES) && said.refusal != (spoiled ? (uint64_t)c->refusal : 0))
         return "refusal";
     if (!spoiled)
         return c->wrong(how, k);

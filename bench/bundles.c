@@ -8,12 +8,7 @@
 #include <time.h>
 #include <unistd.h>
 
-size_t bench_read(const uint8_t *bytes, size_t len);
-uint64_t bench_entry(const uint8_t *bytes, size_t len, size_t i);
-uint64_t bench_unpack(const uint8_t *bytes, size_t len, size_t i, uint64_t *words, size_t words_len);
-size_t bench_write(const uint16_t *kinds, size_t kinds_len, const uint16_t *rows, size_t rows_len,
-                   const uint16_t *columns, size_t columns_len, const uint64_t *words, size_t words_len, uint8_t *out,
-                   size_t out_len);
+#include "chhayublo.h"
 
 enum { LENGTH = 65534, WORDS = 8190, ENTRIES = 64 };
 
@@ -86,18 +81,18 @@ static void lay_out(void)
 static void unpack_all(void)
 {
     size_t l = 0;
-    count = bench_read(bytes, LENGTH);
+    count = chhayublo_bundle_read(bytes, LENGTH).entries;
     for (size_t i = 0; i < count; i++) {
-        uint64_t t = bench_entry(bytes, LENGTH, i);
-        size_t n = (t >> 16 & 65535) * (((t & 65535) + 63) / 64);
-        bench_unpack(bytes, LENGTH, i, words + l, n);
+        chhayublo_entry e = chhayublo_bundle_entry(bytes, LENGTH, i);
+        size_t n = chhayublo_matrix_words(e.rows, e.columns);
+        chhayublo_bundle_unpack(bytes, LENGTH, i, words + l, n);
         l += n;
     }
 }
 
 static void write_all(void)
 {
-    bench_write(kinds, count, rows, count, columns, count, given, total, out, LENGTH);
+    chhayublo_bundle_write(kinds, count, rows, count, columns, count, given, total, out, LENGTH);
 }
 
 static const char *program, *input;

@@ -8,11 +8,3 @@ cp -R "$root/crates" "$root/crates.txt" "$copy/"
 for kept in rlib stamp bin; do # what is proved already is not proved again
     [ ! -d "$root/target/$kept" ] || cp -R "$root/target/$kept" "$copy/target/"
 done
-
-# archive NAME 'CRATES': one crate more in the copy, over these crates, its source on standard input; libNAME.a is then in target/staticlib
-archive() {
-    mkdir -p "$copy/crates/$1/src"
-    cat >"$copy/crates/$1/src/lib.rt"
-    echo "$1: $2" >>"$copy/crates.txt"
-    (cd "$copy" && rt staticlib "$1") >"$scratch/log" 2>&1 || { cat "$scratch/log"; exit 2; }
-}
