@@ -59,7 +59,7 @@ enum chhayublo_refusal {
     CHHAYUBLO_TOO_MANY_ROWS = 1,          /* rows over 512 */
     CHHAYUBLO_BAD_COLUMNS = 2,            /* columns 0 or over 1024 */
     CHHAYUBLO_BAD_K = 3,                  /* k 0 or over 8 */
-    CHHAYUBLO_WRONG_MATRIX_LENGTH = 4,    /* the matrix has other than rows * W words, more or fewer; likewise the words of an entry */
+    CHHAYUBLO_WRONG_MATRIX_LENGTH = 4,    /* other than rows * W words, more or fewer; likewise for an entry's words */
     CHHAYUBLO_PADDING_NOT_ZERO = 5,       /* a padding bit of the matrix is 1 */
     CHHAYUBLO_ROOM_TOO_SHORT = 6,         /* the room has fewer words than needed; more are fine */
     CHHAYUBLO_BAD_BLOCK_COUNT = 7,        /* n, the number of blocks, is 0 or not below columns */

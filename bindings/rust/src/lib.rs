@@ -1,0 +1,38 @@
+//! Dense linear algebra over the field of two elements: reduced row echelon form, inverses, the solving of xor packets,
+//! contradictions, and bundles that carry matrices. The work is done by a proved library, linked as an archive; this crate lends
+//! it slices and turns its refusals into [`Refusal`].
+//!
+//! A matrix has up to 512 rows and 1 to 1,024 columns. A row takes [`words`]`(columns)` words of 64 bits, rows follow each other
+//! without gaps, and column c of a row is the bit of weight 2^(c mod 64) of its word c / 64. Bits past the last column must be 0.
+//! k, from 1 to 8, is the width of the windows in which columns are worked off: it changes the time and the number of additions
+//! told, and nothing else; 7 or 8 is fastest for large matrices.
+//!
+//! No function panics or asks anything of its arguments: what does not fit is refused, and unless said otherwise a refused call
+//! changes nothing. Working room is kept in a [`Room`] that can be used for any number of calls.
+//!
+//! ```
+//! use chhayublo::{reduce, Room};
+//!
+//! let mut matrix = [0b11, 0b01]; // the rows 11 and 10, column 0 written first
+//! let reduced = reduce(&mut matrix, 2, 2, 2, &mut Room::new())?;
+//! assert_eq!(matrix, [0b01, 0b10]);
+//! assert_eq!((reduced.rank, reduced.additions, reduced.pivots), (2, 3, vec![0, 1]));
+//! # Ok::<(), chhayublo::Refusal>(())
+//! ```
+
+pub mod bundle;
+mod matrix;
+mod packets;
+mod refusal;
+mod room;
+mod sys;
+
+pub use matrix::{invert, reduce, row_view, Reduced};
+pub use packets::{contradiction, solve, Solution};
+pub use refusal::Refusal;
+pub use room::Room;
+
+/// Words of a row of that many columns.
+pub fn words(columns: usize) -> usize {
+    columns.div_ceil(64)
+}
