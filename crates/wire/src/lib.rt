@@ -33,10 +33,10 @@ pub fn past(kind: usize, x: u64, s: usize) -> bool
     if 64 <= s {
         return false;
     }
-    if kind == 2 {
-        return x << s != 0;
+    if kind != 2 {
+        return x >> s != 0;
     }
-    x >> s != 0
+    x << s != 0
 }
 
 // a word of a kind in the order of kind 1, and back

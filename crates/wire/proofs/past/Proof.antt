@@ -11,17 +11,17 @@ use Rattle.wire.proofs.past.Lts as lts
 returns : tie.Need-returns
 returns c = let g = c .before .args in let h : g .x < 2 ^ 64 = omega arith in past-none (g .kind) (g .x) (g .s) h (c .if1 .taken)
 
-shl-result : tie.Need-shl-result
-shl-result c = search needs
-
-returns-2 : tie.Need-returns-2
-returns-2 c = let g = c .before .before .args in past-two (g .kind) (g .x) (g .s) (c .if2 .taken) (c .before .if1 .left)
-
 shr-result : tie.Need-shr-result
 shr-result c = search needs
 
+returns-2 : tie.Need-returns-2
+returns-2 c = let g = c .before .before .args in past-one (g .kind) (g .x) (g .s) (c .if2 .taken)
+
+shl-result : tie.Need-shl-result
+shl-result c = search needs
+
 returns-3 : tie.Need-returns-3
-returns-3 c = let g = c .before .before .args in past-one (g .kind) (g .x) (g .s) (c .if2 .left)
+returns-3 c = let g = c .before .before .args in past-two (g .kind) (g .x) (g .s) (c .if2 .left) (c .before .if1 .left)
 
 pub past-spec : {M : Type 1} → statement M
-past-spec = tie.close (tie.spec returns shl-result returns-2 shr-result returns-3)
+past-spec = tie.close (tie.spec returns shr-result returns-2 shl-result returns-3)
