@@ -14,6 +14,7 @@
 #include <time.h>
 
 #include "chhayublo.h"
+#include "random.h"
 
 enum { ROWS = CHHAYUBLO_MAX_ROWS, COLUMNS = CHHAYUBLO_MAX_COLUMNS, WORDS = COLUMNS / 64, JUNK = 0xa5 };
 
@@ -23,16 +24,6 @@ typedef struct {
     int rows, columns;
     unsigned char at[ROWS][COLUMNS];
 } bits;
-
-static uint64_t seed;
-
-static uint64_t next_number(void) // xorshift64*
-{
-    seed ^= seed >> 12;
-    seed ^= seed << 25;
-    seed ^= seed >> 27;
-    return seed * 2685821657736338717u;
-}
 
 static int below(int n) { return (int)((next_number() >> 33) % (uint64_t)n); }
 static int coin(void) { return (int)(next_number() >> 63); }

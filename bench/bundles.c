@@ -9,6 +9,7 @@
 #include <unistd.h>
 
 #include "chhayublo.h"
+#include "random.h"
 
 enum { LENGTH = 65534, WORDS = 8190, ENTRIES = 64 };
 
@@ -17,16 +18,6 @@ static uint16_t kinds[ENTRIES], rows[ENTRIES], columns[ENTRIES];
 static uint64_t given[WORDS], words[WORDS];
 static size_t total;
 static uint8_t bytes[LENGTH], out[LENGTH];
-
-static uint64_t seed;
-
-static uint64_t next_number(void) // xorshift64*
-{
-    seed ^= seed >> 12;
-    seed ^= seed << 25;
-    seed ^= seed >> 27;
-    return seed * 0x2545f4914f6cdd1du;
-}
 
 static size_t width(size_t i) { return (columns[i] + 63u) / 64; }
 

@@ -4,9 +4,10 @@ use mathlib.Core.Bool.{Bool, true, false, not}
 use mathlib.Core.List.{List, _++_, append-nil}
 use mathlib.Core.Logic.{_≢_, _↔_}
 use Prim.Native.Nat.{ℕ, _+_, _-_, _*_, _/_, _%_, _^_, _<_, _≤_}
-use native.Mathlib.Nat.{mul-le-mul-right}
+use native.Mathlib.Nat.{mul-le-mul-right, lt-of-lt-of-le}
 use native.Mathlib.Omega.{arith}
 use lib.Dec.{eqb}
+use lib.Pow.{pow-mono}
 use borrow.Author.Tests.{eqb-true, eq-eqb}
 use Rattle.refusals.proofs.Passed.{not-false}
 use lib.ListN.{length, take, getD, set, drop-of-length-le}
@@ -14,17 +15,17 @@ use lib.Seq.{paste, take-all}
 use mir.Val.{Fits}
 use mir.Syntax.{w8}
 use Rattle.gf2.specs.Rows.{row}
-use Rattle.words.specs.Words.{wordsOf, flat}
+use Rattle.words.specs.Words.{wordsOf, rowsOf, flat}
 use Rattle.words.proofs.Parts.{paste-more}
 use Rattle.words.proofs.Rows.{length-rows, row-ends, last-word-row, last-word-row-full}
-use Rattle.words.proofs.Flat.{flat-rows}
+use Rattle.words.proofs.Flat.{flat-rows, rows-flat}
 use Rattle.wire.specs.Bytes.{Bytes, num}
 use Rattle.wire.specs.Kinds.{order, wordsAt}
 use Rattle.wire.proofs.Bytes.{num-lt}
 use Rattle.wire.proofs.Orders.{length-words, getD-words, words-fit}
 use Rattle.refusals.specs.Checks.{narrow}
 use Rattle.refusals.proofs.Padding.{narrow-all, narrow-not}
-use Rattle.bundle.specs.Bundle.{bodyWords, matrixAt}
+use Rattle.bundle.specs.Bundle.{Entry, bodyWords, matrixAt}
 
 pub small : (n w : ℕ) → n ≤ 512 → w ≤ 16 → n * w ≤ 8192
 small n w hn hw = omega (arith, mul-le-mul-right w hn)
@@ -112,3 +113,12 @@ module _ (kind p rows columns : ℕ) (b : List ℕ) where
 
   pub not-clean : (i : ℕ) → i < rows → (row (matrixAt kind p rows columns b) i < 2 ^ columns → ⊥) → false ≡ narrow columns (matrixAt kind p rows columns b)
   not-clean i h ne = narrow-not columns (matrixAt kind p rows columns b) i (omega (arith, length-matrix)) ne
+
+-- ---- an entry's rows laid out as words are found again
+
+pub rows-again : (e : Entry) → length (e .matrix) ≡ e .rows → ((i : ℕ) → row (e .matrix) i < 2 ^ e .columns)
+    → rowsOf (wordsOf (e .columns)) (e .rows) (flat (wordsOf (e .columns)) (e .matrix)) ≡ e .matrix
+rows-again e l f =
+    let w : ℕ = wordsOf (e .columns) in
+    let h : e .columns ≤ 64 * w = omega arith in
+    ap (λ (n : ℕ). rowsOf w n (flat w (e .matrix))) (sym l) ∙ rows-flat w (e .matrix) (λ i. lt-of-lt-of-le (f i) (pow-mono {i = e .columns} {j = 64 * w} h))

@@ -2,10 +2,8 @@
 use mathlib.Core.Path.{_≡_, sym, ap, _∙_, subst}
 use mathlib.Core.List.{List}
 use Prim.Native.Nat.{ℕ, _*_, _^_, _<_, _≤_}
-use native.Mathlib.Nat.{lt-of-lt-of-le}
 use native.Mathlib.Omega.{arith}
 use lib.Dec.{lit<, lit≤}
-use lib.Pow.{pow-mono}
 use lib.ListN.{length}
 use lib.Seq.{take-all}
 use Rattle.gf2.specs.Rows.{row}
@@ -14,26 +12,18 @@ use Rattle.gf2.specs.Rref.{rref}
 use Rattle.gf2.proofs.Reduced.{one-reduced-form}
 use Rattle.gf2.proofs.Rref.{rref-form}
 use Rattle.words.specs.Words.{Fit, wordsOf, rowsOf, flat}
-use Rattle.words.proofs.Flat.{length-flat, rows-flat, flat-rows}
+use Rattle.words.proofs.Flat.{length-flat, flat-rows}
 use Rattle.refusals.specs.declared.Outcome.the-variants.{Done}
 use Rattle.refusals.specs.Checks.{reductionChecks}
 use Rattle.refusals.proofs.Passed.{passes-reduction}
 use Rattle.bundle.specs.Bundle.{Entry, bodyWords}
+use Rattle.bundle.proofs.Bodies.{rows-again}
 use Rattle.desk.proofs.Sound.{Sound}
 
 module _ (e : Entry) (s : Sound e) where
-  w : ℕ
-  w = wordsOf (e .columns)
-
-  -- the words of the entry's rows, and the rows of these words
-  pub rows-again : rowsOf (wordsOf (e .columns)) (e .rows) (flat (wordsOf (e .columns)) (e .matrix)) ≡ e .matrix
-  rows-again =
-      let fit : (i : ℕ) → row (e .matrix) i < 2 ^ (64 * wordsOf (e .columns)) = λ i. lt-of-lt-of-le (s .clean i) (pow-mono {i = e .columns} {j = 64 * wordsOf (e .columns)} (omega arith)) in
-      ap (λ (n : ℕ). rowsOf (wordsOf (e .columns)) n (flat (wordsOf (e .columns)) (e .matrix))) (sym (s .sized)) ∙ rows-flat (wordsOf (e .columns)) (e .matrix) fit
-
   pub passes : (words : List ℕ) (room : ℕ) → words ≡ flat (wordsOf (e .columns)) (e .matrix) → 16 * wordsOf (e .columns) ≤ room → reductionChecks (e .rows) (e .columns) 4 words room ≡ Done
   passes words room ew er =
-      let rows : rowsOf (wordsOf (e .columns)) (e .rows) words ≡ e .matrix = ap (rowsOf (wordsOf (e .columns)) (e .rows)) ew ∙ rows-again in
+      let rows : rowsOf (wordsOf (e .columns)) (e .rows) words ≡ e .matrix = ap (rowsOf (wordsOf (e .columns)) (e .rows)) ew ∙ rows-again e (s .sized) (s .clean) in
       passes-reduction (e .rows) (e .columns) 4 words room (record {
         few = s .shape .few;
         some = s .shape .some;
@@ -47,7 +37,7 @@ module _ (e : Entry) (s : Sound e) where
 
   module _ (words words′ : List ℕ) (ew : words ≡ flat (wordsOf (e .columns)) (e .matrix)) (f : ReducedForm (rowsOf (wordsOf (e .columns)) (e .rows) words) (rowsOf (wordsOf (e .columns)) (e .rows) words′)) where
     pub form-rows : rowsOf (wordsOf (e .columns)) (e .rows) words′ ≡ rref (e .matrix)
-    form-rows = one-reduced-form (subst (λ (M : List ℕ). ReducedForm M (rowsOf (wordsOf (e .columns)) (e .rows) words′)) (ap (rowsOf (wordsOf (e .columns)) (e .rows)) ew ∙ rows-again) f) (rref-form (e .matrix))
+    form-rows = one-reduced-form (subst (λ (M : List ℕ). ReducedForm M (rowsOf (wordsOf (e .columns)) (e .rows) words′)) (ap (rowsOf (wordsOf (e .columns)) (e .rows)) ew ∙ rows-again e (s .sized) (s .clean)) f) (rref-form (e .matrix))
 
     pub form-words : length words′ ≡ bodyWords (e .rows) (e .columns) → Fit words′ → words′ ≡ flat (wordsOf (e .columns)) (rref (e .matrix))
     unfolding bodyWords

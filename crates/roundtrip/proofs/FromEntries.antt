@@ -3,13 +3,12 @@ use mathlib.Core.Path.{_≡_, refl, sym, ap, ap₂, _∙_, subst}
 use mathlib.Core.Bool.{true}
 use mathlib.Core.List.{List, [], _∷_, _++_, append-assoc}
 use Prim.Native.Nat.{ℕ, _+_, _*_, _^_, _<_, _≤_}
-use native.Mathlib.Nat.{lt-of-lt-of-le, lt-of-le-of-lt}
+use native.Mathlib.Nat.{lt-of-le-of-lt}
 use native.Mathlib.Omega.{arith}
 use lib.Dec.{lit<}
-use lib.Pow.{pow-mono}
 use lib.ListN.{length, length-append}
 use Rattle.words.specs.Words.{wordsOf, rowsOf, flat}
-use Rattle.words.proofs.Flat.{length-flat, fit-flat, rows-flat}
+use Rattle.words.proofs.Flat.{length-flat, fit-flat}
 use Rattle.wire.specs.Bytes.{num, bytesOf}
 use Rattle.wire.specs.Kinds.{wordsAt}
 use Rattle.wire.proofs.Bytes.{length-bytes, num-at}
@@ -21,6 +20,7 @@ use Rattle.refusals.proofs.Padding.{narrow-row}
 use Rattle.refusals.proofs.Passed.{done-then, done-same}
 use Rattle.bundle.specs.Bundle.{Entry, bodyWords, headBytes, countOf, kindAt, rowsAt, columnsAt, offsetAt, wordsIn, matrixAt, entryChecks, entriesChecks, bundleChecks, entryAt, entriesFrom, entriesOf}
 use Rattle.bundle.specs.Answers.{countEntries}
+use Rattle.bundle.proofs.Bodies.{rows-again}
 use Rattle.bundle.proofs.Passing.{Shaped, entry-passes, bundle-passes}
 use Rattle.pack.specs.Encode.{headOf, contentsOf, bodyOf, bodiesOf, encode}
 use Rattle.pack.proofs.Lengths.{length-head, length-contents, length-body}
@@ -36,15 +36,6 @@ pub record Proper (rule : ℕ → Outcome) (e : Entry) : Type 0 where
 pub data Propers (rule : ℕ → Outcome) : List Entry → Type 0 where
   none : Propers rule []
   one : {e : Entry} {es : List Entry} → Proper rule e → Propers rule es → Propers rule (e ∷ es)
-
--- its rows are found again in the words of its body
-pub rows-again : (e : Entry) → length (e .matrix) ≡ e .rows → narrow (e .columns) (e .matrix) ≡ true
-    → rowsOf (wordsOf (e .columns)) (e .rows) (flat (wordsOf (e .columns)) (e .matrix)) ≡ e .matrix
-rows-again e l c =
-    let w : ℕ = wordsOf (e .columns) in
-    let h : e .columns ≤ 64 * w = omega arith in
-    ap (λ (n : ℕ). rowsOf w n (flat w (e .matrix))) (sym l)
-    ∙ rows-flat w (e .matrix) (λ i. lt-of-lt-of-le (narrow-row (e .columns) (e .matrix) c i) (pow-mono {i = e .columns} {j = 64 * w} h))
 
 -- entry i and a body at byte p say e
 record Says (e : Entry) (i p : ℕ) (b : List ℕ) : Type 0 where
@@ -150,7 +141,7 @@ module _ (rule : ℕ → Outcome) (e : Entry) (i p : ℕ) (pre C mid B b : List 
         offset = ap (num 4 (headBytes i + 6)) b₄ ∙ num-at 4 (headBytes i + 6) p (pre ++ K ++ R ++ L) _ l₄ (four p (omega (arith, past)));
         matrix =
             ap (rowsOf w (e .rows)) (ap₂ (wordsAt (e .kind) p) (sym lX) b₆ ∙ words-at (e .kind) p X (pre ++ H ++ (C ++ mid)) B (fit-flat w (e .matrix)) l₆)
-            ∙ rows-again e (pr .size) (pr .clean);
+            ∙ rows-again e (pr .size) (narrow-row (e .columns) (e .matrix) (pr .clean));
         inside = past;
       }
 

@@ -3,12 +3,11 @@ use mathlib.Core.Path.{_≡_, refl, sym, ap, ap₂, _∙_, subst}
 use mathlib.Core.Bool.{true, _&&_}
 use mathlib.Core.List.{List, [], _∷_, _++_}
 use Prim.Native.Nat.{ℕ, zero, suc, _+_, _*_, _<_, _≤_}
-use native.Mathlib.Nat.{suc-mul}
 use native.Mathlib.Omega.{arith}
 use lib.Dec.{lit<}
-use lib.ListN.{length, getD, take, drop, length-append, length-drop}
-use lib.Seq.{drop-at, take-append-le, drop-append-le}
-use Rattle.words.specs.Words.{Fit, wordsOf, value, rowsOf, flat}
+use lib.ListN.{length, getD, take, drop, length-append}
+use lib.Seq.{drop-at}
+use Rattle.words.specs.Words.{Fit, wordsOf, rowsOf, flat}
 use Rattle.words.proofs.Rows.{length-rows, rows-front}
 use Rattle.words.proofs.Flat.{length-flat, fit-flat, fit-append}
 use Rattle.wire.specs.Bytes.{Bytes}
@@ -28,8 +27,10 @@ use Rattle.pack.proofs.Lengths.{length-encode}
 use Rattle.pack.proofs.Passing.{write-passes}
 use Rattle.roundtrip.specs.Trips.{kindsOf, rowsListOf, columnsOf, wordsOfAll, startOf}
 use Rattle.roundtrip.proofs.FromBytes.{written-again}
+use Rattle.bundle.proofs.Bodies.{rows-again}
+use Rattle.refusals.proofs.Padding.{narrow-row}
 use Rattle.bundle.proofs.Meaning.{count-from}
-use Rattle.roundtrip.proofs.FromEntries.{Propers, none, one, rows-again}
+use Rattle.roundtrip.proofs.FromEntries.{Propers, none, one}
 use Rattle.bundle.proofs.Exactly.{meant}
 use Rattle.roundtrip.proofs.FromLists.{unpacks-again}
 
@@ -73,7 +74,7 @@ lists rule (e ∷ es) (one pr ps) =
     let n : ℕ = bodyWords (e .rows) (e .columns) in
     let X : List ℕ = flat w (e .matrix) in
     let l : length X ≡ n = length-flat w (e .matrix) ∙ ap (λ (k : ℕ). k * w) (pr .size) in
-    let m : rowsOf w (e .rows) (X ++ wordsOfAll es) ≡ e .matrix = rows-front w (e .rows) X (wordsOfAll es) (omega arith) ∙ rows-again e (pr .size) (pr .clean) in
+    let m : rowsOf w (e .rows) (X ++ wordsOfAll es) ≡ e .matrix = rows-front w (e .rows) X (wordsOfAll es) (omega arith) ∙ rows-again e (pr .size) (narrow-row (e .columns) (e .matrix) (pr .clean)) in
     record {
       back =
           ap₂ (λ (M ws : List ℕ). record { kind = e .kind; rows = e .rows; columns = e .columns; matrix = M } ∷ given (kindsOf es) (rowsListOf es) (columnsOf es) ws) m
