@@ -1,12 +1,12 @@
 -- The test of the shapes says exactly whether they fit; where they do, so do those of the core.
 use mathlib.Core.Path.{_≡_, sym, ap, ap₂, _∙_, subst}
 use mathlib.Core.Logic.{_≢_}
-use mathlib.Core.Bool.{Bool, true, false, not}
+use mathlib.Core.Bool.{Bool, true, false}
 use mathlib.Core.List.{List, _++_}
 use Prim.Native.Nat.{ℕ, _+_, _*_, _^_, _≤_, _<_}
 use native.Mathlib.Nat.{add-mul}
 use native.Mathlib.Omega.{arith}
-use borrow.Author.Tests.{not-true, not-false, ltb-false, le-ltb}
+use borrow.Author.Tests.{ltb-false, le-ltb}
 use lib.Dec.{T, ltb}
 use lib.ListN.{length, drop, replicate}
 use lib.Seq.{drop-drop}
@@ -72,14 +72,6 @@ module _ (rows columns k : ℕ) where
           clean = holds-exactly rows columns m .0 (sym t) .1;
         }
     right-shape o p eo zo ep zp false t = λ f. subst T (sym (t ∙ holds-exactly rows columns m .1 (f .held, f .clean))) tt
-
--- the test's answer, where the code asks for its negation
-module _ (A : Type 0) (b : Bool) (d : Decides b A) where
-  pub fits-so : not b ≡ false → A
-  fits-so e = subst (λ (x : Bool). Decides x A) (not-false b e) d
-
-  pub fits-not : not b ≡ true → A → ⊥
-  fits-not e = subst (λ (x : Bool). Decides x A) (not-true b e) d
 
 -- ---- the reduction of the matrix beside the identity
 

@@ -6,8 +6,8 @@ use Prim.Native.Nat.{ℕ, _+_, _^_}
 use native.Mathlib.Nat.{add-mul}
 use native.Mathlib.Omega.{arith}
 use Rattle.gf2.proofs.Reduced.{one-reduced-form}
-use Rattle.words.specs.Words.{wordsOf}
-use Rattle.words.proofs.Slices.{Slice, same-words}
+use Rattle.words.specs.Words.{Slice, wordsOf}
+use Rattle.words.proofs.Slices.{same-words}
 use Rattle.beside.specs.Beside.{besideReduced}
 
 module _ (rows columns k : ℕ) (m room room′ room₂ : List ℕ) (s : Slice room room′) (s₂ : Slice room room₂) where

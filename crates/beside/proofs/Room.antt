@@ -1,11 +1,11 @@
 -- What a caller knows of the room: after the call, and when the matrix in it has been cleared too.
 use mathlib.Core.Path.{_≡_, sym, ap, ap₂, _∙_, subst}
 use mathlib.Core.Bool.{Bool, true, false}
-use mathlib.Core.List.{List, _∷_, _++_, append-assoc}
-use Prim.Native.Nat.{ℕ, zero, suc, _+_, _*_, _^_, _≤_, _<_, min}
-use native.Mathlib.Nat.{zero-add, suc-add, add-mul, min-eq-left}
+use mathlib.Core.List.{List, _++_, append-assoc}
+use Prim.Native.Nat.{ℕ, _+_, _*_, _^_, _≤_, _<_, min}
+use native.Mathlib.Nat.{zero-add, add-mul, min-eq-left}
 use native.Mathlib.Omega.{arith}
-use lib.ListN.{length, drop, replicate, length-replicate}
+use lib.ListN.{length, drop, replicate, length-replicate, replicate-append-replicate}
 use lib.Seq.{take-all}
 use Rattle.gf2.specs.Rows.{row}
 use Rattle.gf2.specs.Reduced.{ReducedForm}
@@ -41,14 +41,10 @@ zeroed-sum : (a b : ℕ) (room room₁ : List ℕ) → a + b ≤ length room →
 zeroed-sum a b room room₁ h l d =
     ap (λ (x : ℕ). zeroed 0 x room₁) (min-eq-left {n = a} {m = length room₁} (omega arith))
     ∙ plain a room₁ ∙ ap (λ (t : List ℕ). replicate a 0 ++ t) d ∙ sym (append-assoc (replicate a 0) (replicate b 0) (drop (a + b) room))
-    ∙ ap (λ (t : List ℕ). t ++ drop (a + b) room) (zeros a b) ∙ sym (plain (a + b) room)
+    ∙ ap (λ (t : List ℕ). t ++ drop (a + b) room) (replicate-append-replicate a b 0) ∙ sym (plain (a + b) room)
   where
     plain : (n : ℕ) (x : List ℕ) → zeroed 0 n x ≡ replicate n 0 ++ drop n x
     plain n x = ap₂ (λ (y z : List ℕ). y ++ z) (take-all n (replicate n 0) (omega (arith, length-replicate {A = ℕ} n 0))) (ap (λ (i : ℕ). drop i x) (zero-add n))
-
-    zeros : (n o : ℕ) → replicate n 0 ++ replicate o 0 ≡ replicate {A = ℕ} (n + o) 0
-    zeros zero o = ap (λ (i : ℕ). replicate i 0) (sym (zero-add o))
-    zeros (suc n) o = ap (λ (t : List ℕ). 0 ∷ t) (zeros n o) ∙ ap (λ (i : ℕ). replicate i 0) (sym (suc-add n o))
 
 pub room-cleared : (rows k w : ℕ) (room room₁ : List ℕ) → (rows + 2 ^ k) * w ≤ length room → length room₁ ≡ length room
     → drop (rows * w) room₁ ≡ replicate (2 ^ k * w) 0 ++ drop ((rows + 2 ^ k) * w) room → zeroed 0 (min (rows * w) (length room₁)) room₁ ≡ zeroed 0 ((rows + 2 ^ k) * w) room

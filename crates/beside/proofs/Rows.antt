@@ -14,11 +14,8 @@ use Rattle.gf2.proofs.Products.{is-tabulate}
 use Rattle.words.specs.Words.{Fit, wordsOf, value, rowsOf, firstWords}
 use Rattle.words.proofs.First.{length-first, value-first}
 use Rattle.words.proofs.Parts.{length-part}
-use Rattle.words.proofs.Rows.{row-ends, length-rows, getD-rows, rows-paste, rest-paste}
+use Rattle.words.proofs.Rows.{row-end, length-rows, getD-rows, rows-paste, rest-paste}
 use Rattle.words.proofs.Value.{value-lt, part-fits}
-
-pub row-end : (m : List ℕ) (w rows i : ℕ) → rows * w ≤ length m → i < rows → i * w + w ≤ length m
-row-end m w rows i hm hi = omega (arith, row-ends i rows w hi)
 
 -- w words and a one more fit v words, if neither is wider
 sum-narrow : (ws : List ℕ) (v w c : ℕ) → Fit ws → length ws ≡ w → w ≤ v → c < 64 * v → value ws ⊕ 2 ^ c < 2 ^ (64 * v)

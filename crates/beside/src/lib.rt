@@ -1,21 +1,13 @@
 // A matrix with an identity on its right, reduced in one room.
 ghost use mathlib.Core.Path.{_≡_};
-ghost use Prim.Native.Nat.{_+_, _*_, _^_, _≤_, _<_};
-ghost use lib.ListN.{length, getD, drop};
+ghost use Prim.Native.Nat.{_+_, _*_, _^_, _≤_};
+ghost use lib.ListN.{length, drop};
 ghost use lib.Seq.{paste};
 ghost use Rattle.gf2.specs.Rows.{_⊕_, part};
 ghost use Rattle.gf2.specs.Inverse.{adjoin};
 ghost use Rattle.words.specs.Words.{value, wordsOf, rowsOf, firstWords, windowBits};
 ghost use Rattle.refusals.specs.Outcome.{Decides};
 ghost use Rattle.beside.specs.Beside.{Fits, besideReduced};
-
-// word l of the row of w words at place `at`; past its end, zero
-fn word(m: &[u64], at: usize, w: usize, l: usize) -> u64
-    requires { ⌜ at + w ≤ length (now m) ⌝ }
-    ensures { λ x. ⌜ x ≡ getD (part at w (now (m .entry))) l 0 ⌝ }
-{
-    if l < w { m[at + l] } else { 0 }
-}
 
 // word l of a row whose only one is in column c
 fn unit_word(c: usize, l: usize) -> u64
@@ -26,12 +18,12 @@ fn unit_word(c: usize, l: usize) -> u64
 
 // the v words of the room from place `to` on become the row of w words at place `at`, with a one more in column c
 fn put(room: &mut [u64], to: usize, v: usize, m: &[u64], at: usize, w: usize, c: usize)
-    requires { ⌜ (to + v ≤ length (now room)) × (at + w ≤ length (now m)) ⌝ }
+    requires { ⌜ to + v ≤ length (now room) ⌝ }
     ensures { λ _. ⌜ now (room .exit) ≡ paste (now (room .entry)) to (firstWords v (value (part at w (now (m .entry))) ⊕ 2 ^ c)) v ⌝ }
 {
     let mut l = 0;
     while l < v {
-        room[to + l] = word(m, at, w, l) ^ unit_word(c, l);
+        room[to + l] = refusals::word(m, at, w, l) ^ unit_word(c, l);
         l += 1;
     }
 }

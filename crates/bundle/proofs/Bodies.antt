@@ -8,8 +8,7 @@ use native.Mathlib.Nat.{mul-le-mul-right, lt-of-lt-of-le}
 use native.Mathlib.Omega.{arith}
 use lib.Dec.{eqb}
 use lib.Pow.{pow-mono}
-use borrow.Author.Tests.{eqb-true, eq-eqb}
-use Rattle.refusals.proofs.Passed.{not-false}
+use borrow.Author.Tests.{eqb-true, eq-eqb, not-false}
 use lib.ListN.{length, take, getD, set, drop-of-length-le}
 use lib.Seq.{paste, take-all}
 use mir.Val.{Fits}
@@ -32,6 +31,10 @@ small n w hn hw = omega (arith, mul-le-mul-right w hn)
 
 pub two-bytes : (p : ℕ) (b : List ℕ) → ((j : ℕ) → Fits w8 (getD b j 0)) → num 2 p b < 65536
 two-bytes p b f = num-lt 2 p b (λ j. f j .fits)
+
+pub body-same : (rows columns : ℕ) {w : ℕ} → w ≡ wordsOf columns → rows * w ≡ bodyWords rows columns
+unfolding bodyWords
+body-same rows columns e = ap (λ (x : ℕ). rows * x) e
 
 -- ---- words are written one after the other
 

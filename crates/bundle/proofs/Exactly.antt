@@ -3,11 +3,12 @@ use mathlib.Core.Path.{_≡_, refl, sym, ap, ap₂, _∙_}
 use mathlib.Core.Logic.{_↔_}
 use mathlib.Core.List.{List}
 use Prim.Native.Nat.{ℕ}
+use lib.ListN.{length}
 use Rattle.refusals.specs.declared.Refusal.{Refusal}
 use Rattle.refusals.specs.declared.Outcome.{Outcome}
 use Rattle.refusals.specs.declared.Outcome.the-variants.{Done, Refused}
 use Rattle.bundle.specs.Bundle.{Entry, countOf, bundleChecks, entriesFrom, entriesOf, refused, bundle, meantBy, meaning}
-use Rattle.bundle.specs.Answers.{countEntries, countedIn}
+use Rattle.bundle.specs.Answers.{countedIn}
 use Rattle.bundle.specs.declared.Counted.the-variants as counted
 use Rattle.bundle.proofs.Meaning.{count-from}
 
@@ -23,7 +24,7 @@ pub means : (rule : ℕ → Outcome) (b : List ℕ) (es : List Entry) → bundle
 unfolding meaning
 means rule b es d e = ap₂ meantBy d e
 
-counted-by : (o : Outcome) (es : List Entry) (n : ℕ) → countedIn (meantBy o es) ≡ counted.Entries n → (o ≡ Done) × (countEntries es ≡ n)
+counted-by : (o : Outcome) (es : List Entry) (n : ℕ) → countedIn (meantBy o es) ≡ counted.Entries n → (o ≡ Done) × (length es ≡ n)
 unfolding countedIn
 counted-by Done es n e = (refl, cc)
 counted-by (Refused r) es n e = (cc, cc)

@@ -2,18 +2,13 @@
 use mathlib.Core.Path.{_≡_, refl}
 use mathlib.Core.List.{[], _∷_, map}
 use Prim.Native.Nat.{_+_, _^_}
-use lib.ListN.{length}
 use Rattle.words.specs.Words.{rowsOf}
 use Rattle.wire.specs.Bytes.{num}
 use Rattle.wire.specs.Kinds.{order, wordsAt}
 use Rattle.refusals.specs.Checks.{narrow}
 use Rattle.bundle.specs.Bundle.{bodyWords, matrixAt, kindRule, bothKinds, badShape, bodyChecks, entryChecks, entriesChecks, bundleChecks, entryAt, entriesFrom, entriesOf, bundle, meaning}
-use Rattle.bundle.specs.Answers.{countedNumber, countEntries, countedIn}
+use Rattle.bundle.specs.Answers.{countedNumber, countedIn}
 use Rattle.bundle.specs.Sample.{sample, mixed, matrices, Example, table}
-
-pub sample-length : length sample ≡ 62
-unfolding sample
-sample-length = refl
 
 pub sample-means : meaning bothKinds sample ≡ bundle (matrices 1)
 unfolding sample matrices meaning bundleChecks entriesChecks entryChecks bodyChecks badShape kindRule matrixAt bodyWords narrow rowsOf wordsAt order num entriesOf entriesFrom entryAt
@@ -29,5 +24,5 @@ unfolding mixed matrices meaning bundleChecks entriesChecks entryChecks bodyChec
 mixed-means = refl
 
 pub table-holds : map (λ (e : Example). countedNumber (countedIn (meaning bothKinds (e .bytes)))) table ≡ map (λ (e : Example). e .number) table
-unfolding table meaning bundleChecks entriesChecks entryChecks bodyChecks badShape kindRule matrixAt bodyWords narrow rowsOf wordsAt order num entriesOf entriesFrom entryAt countedIn countEntries
+unfolding table meaning bundleChecks entriesChecks entryChecks bodyChecks badShape kindRule matrixAt bodyWords narrow rowsOf wordsAt order num entriesOf entriesFrom entryAt countedIn
 table-holds = refl

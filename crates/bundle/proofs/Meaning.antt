@@ -14,7 +14,7 @@ use Rattle.refusals.specs.declared.Refusal.the-variants.{NotBelow, WrongLength}
 use Rattle.refusals.specs.declared.Outcome.{Outcome}
 use Rattle.refusals.specs.declared.Outcome.the-variants.{Done, Refused}
 use Rattle.bundle.specs.Bundle.{countOf, kindAt, rowsAt, columnsAt, offsetAt, wordsIn, badShape, bundleChecks, entryAt, entriesFrom, entriesOf, meantBy, meaning}
-use Rattle.bundle.specs.Answers.{countEntries, countedIn, Found, found, missing, entryIn, find, toldOf, fitting, lentFor, unpackedOf}
+use Rattle.bundle.specs.Answers.{countedIn, Found, found, missing, entryIn, find, toldOf, fitting, lentFor, unpackedOf}
 use Rattle.bundle.specs.declared.Counted.the-variants as counted
 use Rattle.bundle.specs.declared.Told.{Told}
 use Rattle.bundle.specs.declared.Told.the-variants as told
@@ -23,8 +23,8 @@ use Rattle.bundle.proofs.Bodies.{flat-matrix}
 
 -- ---- n entries from entry j on
 
-pub count-from : (n j : ℕ) (b : List ℕ) → countEntries (entriesFrom n j b) ≡ n
-unfolding countEntries entriesFrom
+pub count-from : (n j : ℕ) (b : List ℕ) → length (entriesFrom n j b) ≡ n
+unfolding entriesFrom
 count-from zero j b = refl
 count-from (suc n) j b = ap suc (count-from n (j + 1) b)
 

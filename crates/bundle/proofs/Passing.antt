@@ -1,28 +1,20 @@
--- What passing the checks means: of an entry, of all entries, of a bundle.
+-- The checks refuse nothing exactly if what passing means holds: of an entry, of all entries, of a bundle.
 use mathlib.Core.Path.{_≡_, sym, ap, subst}
-use mathlib.Core.Bool.{Bool, true, not}
+use mathlib.Core.Bool.{Bool, not}
 use mathlib.Core.List.{List}
-use Prim.Native.Nat.{ℕ, zero, suc, _+_, _-_, _*_, _<_, _≤_}
+use Prim.Native.Nat.{ℕ, zero, suc, _+_, _*_, _<_, _≤_}
 use native.Mathlib.Omega.{arith}
 use lib.Dec.{ltb, eqb}
 use lib.ListN.{length}
-use borrow.Author.Tests.{ltb-false, eqb-false, le-ltb, ne-eqb}
+use borrow.Author.Tests.{ltb-false, eqb-false, le-ltb, ne-eqb, not-false}
 use Rattle.refusals.specs.declared.Outcome.{Outcome}
 use Rattle.refusals.specs.declared.Outcome.the-variants.{Done}
 use Rattle.refusals.specs.Outcome.{refuseIf, _andThen_}
 use Rattle.refusals.specs.Checks.{narrow}
-use Rattle.refusals.proofs.Passed.{if-done, done-if, then-done, done-then, not-false, same-done, done-same}
-use Rattle.bundle.specs.Bundle.{bodyWords, headBytes, countOf, kindAt, rowsAt, columnsAt, offsetAt, wordsIn, matrixAt, badShape, bodyChecks, entryChecks, entriesChecks, bundleChecks}
+use Rattle.refusals.proofs.Passed.{pos, if-done, done-if, then-done, done-then, same-done, done-same}
+use Rattle.bundle.specs.Bundle.{bodyWords, headBytes, countOf, kindAt, rowsAt, columnsAt, offsetAt, wordsIn, matrixAt, badShape, bodyChecks, entryChecks, entriesChecks, bundleChecks, Shaped, Stands, Placed, Accepted}
 
 -- ---- an entry
-
-pub record Shaped (rows columns : ℕ) : Type 0 where
-  pub few : rows ≤ 512
-  pub some : 0 < columns
-  pub wide : columns ≤ 1024
-
-pos : (n : ℕ) → (n ≡ 0 → ⊥) → 0 < n
-pos n h = omega arith
 
 pub shaped : (rows columns : ℕ) → badShape rows columns ≡ Done → Shaped rows columns
 unfolding badShape
@@ -31,7 +23,7 @@ shaped rows columns e =
     let t = then-done (refuseIf (ltb 512 rows) _) (refuseIf (eqb columns 0) _) (s .0) in
     record {
       few = ltb-false 512 rows (if-done (ltb 512 rows) _ (t .0));
-      some = pos columns (eqb-false columns 0 (if-done (eqb columns 0) _ (t .1)));
+      some = pos (eqb-false columns 0 (if-done (eqb columns 0) _ (t .1)));
       wide = ltb-false 1024 columns (if-done (ltb 1024 columns) _ (s .1));
     }
 
@@ -39,12 +31,6 @@ pub shape-passes : (rows columns : ℕ) → Shaped rows columns → badShape row
 unfolding badShape
 shape-passes rows columns s =
     done-then (done-then (done-if _ (le-ltb 512 rows (s .few))) (done-if _ (ne-eqb columns 0 (λ z. omega (arith, s .some))))) (done-if _ (le-ltb 1024 columns (s .wide)))
-
--- the body stands where it should, inside the bundle, with no one past its last column
-pub record Stands (kind rows columns offset p : ℕ) (b : List ℕ) : Type 0 where
-  pub here : offset ≡ p
-  pub inside : p + 8 * bodyWords rows columns ≤ length b
-  pub clean : narrow columns (matrixAt kind p rows columns b) ≡ true
 
 module _ (kind rows columns offset p : ℕ) (b : List ℕ) where
   pub stands : bodyChecks kind rows columns offset p b ≡ Done → Stands kind rows columns offset p b
@@ -64,11 +50,6 @@ module _ (kind rows columns offset p : ℕ) (b : List ℕ) where
   unfolding bodyChecks
   body-passes s =
       done-then (done-then (done-same _ offset p (s .here)) (done-if _ (le-ltb (length b) (p + 8 * bodyWords rows columns) (s .inside)))) (done-if _ (ap not (s .clean)))
-
-pub record Placed (rule : ℕ → Outcome) (i p : ℕ) (b : List ℕ) : Type 0 where
-  pub taken : rule (kindAt i b) ≡ Done
-  pub shape : Shaped (rowsAt i b) (columnsAt i b)
-  pub body : Stands (kindAt i b) (rowsAt i b) (columnsAt i b) (offsetAt i b) p b
 
 module _ (rule : ℕ → Outcome) (i p : ℕ) (b : List ℕ) where
   pub placed : entryChecks rule i p b ≡ Done → Placed rule i p b
@@ -118,14 +99,6 @@ all-placed rule (suc n) i p b e j h = go (all-placed rule n (i + 1) (p + 8 * wor
 
 -- ---- a bundle
 
-pub record Accepted (rule : ℕ → Outcome) (b : List ℕ) : Type 0 where
-  pub long : 2 ≤ length b
-  pub short : length b ≤ 65535
-  pub any : 0 < countOf b
-  pub few : countOf b ≤ 64
-  pub whole : headBytes (countOf b) ≤ length b
-  pub entries : entriesChecks rule (countOf b) 0 (headBytes (countOf b)) b ≡ Done
-
 module _ (rule : ℕ → Outcome) (b : List ℕ) where
   pub accepted : bundleChecks rule b ≡ Done → Accepted rule b
   unfolding bundleChecks
@@ -143,7 +116,7 @@ module _ (rule : ℕ → Outcome) (b : List ℕ) where
       record {
         long = ltb-false (length b) 2 (if-done (ltb (length b) 2) _ (t₁ .0));
         short = ltb-false 65535 (length b) (if-done (ltb 65535 (length b)) _ (t₁ .1));
-        any = pos (countOf b) (eqb-false (countOf b) 0 (if-done (eqb (countOf b) 0) _ (t₂ .1)));
+        any = pos (eqb-false (countOf b) 0 (if-done (eqb (countOf b) 0) _ (t₂ .1)));
         few = ltb-false 64 (countOf b) (if-done (ltb 64 (countOf b)) _ (t₃ .1));
         whole = ltb-false (length b) (headBytes (countOf b)) (if-done (ltb (length b) (headBytes (countOf b))) _ (t₄ .1));
         entries = t₅ .1;

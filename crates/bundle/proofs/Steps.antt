@@ -14,12 +14,12 @@ use Rattle.refusals.specs.declared.Outcome.the-variants.{Done, Refused}
 use Rattle.refusals.specs.Outcome.{outcomeNumber, refuseIf, _andThen_}
 use Rattle.refusals.specs.Checks.{narrow}
 use Rattle.refusals.proofs.Passed.{number-zero, then-done}
-use Rattle.bundle.specs.Bundle.{bodyWords, kindAt, rowsAt, columnsAt, offsetAt, wordsIn, matrixAt, badShape, bodyChecks, entryChecks, entriesChecks}
-use Rattle.bundle.proofs.Passing.{Shaped, shaped, shape-passes, placed}
+use Rattle.bundle.specs.Bundle.{bodyWords, kindAt, rowsAt, columnsAt, offsetAt, wordsIn, matrixAt, badShape, bodyChecks, entryChecks, entriesChecks, Shaped}
+use Rattle.bundle.proofs.Passing.{shaped, shape-passes, placed}
 
 -- ---- two checks in order, by the first one's number
 
-then-stops : (o p : Outcome) → outcomeNumber o ≢ 0 → o ≡ o andThen p
+pub then-stops : (o p : Outcome) → outcomeNumber o ≢ 0 → o ≡ o andThen p
 then-stops Done p ne = absurd (ne refl)
 then-stops (Refused r) p ne = refl
 

@@ -3,11 +3,13 @@ use mathlib.Core.Bool.{Bool, true, false}
 use mathlib.Core.List.{List, [], _∷_}
 use Prim.Native.Nat.{ℕ, zero, suc}
 use lib.Dec.{eqb}
+use lib.ListN.{length}
 use Rattle.words.specs.Words.{wordsOf, flat}
 use Rattle.refusals.specs.declared.Refusal.{Refusal}
 use Rattle.refusals.specs.declared.Refusal.the-variants.{NotBelow, WrongLength}
+use Rattle.refusals.specs.declared.Outcome.{Outcome}
 use Rattle.refusals.specs.Outcome.{numberOf}
-use Rattle.bundle.specs.Bundle.{Entry, bodyWords, Meaning, refused, bundle}
+use Rattle.bundle.specs.Bundle.{Entry, bodyWords, Meaning, refused, bundle, meaning}
 use Rattle.bundle.specs.declared.Counted.{Counted}
 use Rattle.bundle.specs.declared.Counted.the-variants as counted
 use Rattle.bundle.specs.declared.Told.{Told}
@@ -22,13 +24,9 @@ abbrev pub toldNumber : Told → ℕ
 toldNumber (told.Entry kind rows columns) = 0
 toldNumber (told.Refused r) = numberOf r
 
-unfoldable pub countEntries : List Entry → ℕ
-countEntries [] = 0
-countEntries (e ∷ es) = suc (countEntries es)
-
 -- reading: how many entries
 unfoldable pub countedIn : Meaning → Counted
-countedIn (bundle es) = counted.Entries (countEntries es)
+countedIn (bundle es) = counted.Entries (length es)
 countedIn (refused r) = counted.Refused r
 
 -- an entry, or why there is none
@@ -36,12 +34,13 @@ pub data Found : Type 0 where
   found : Entry → Found
   missing : Refusal → Found
 
--- entry i of a list, counted from 0
+-- entry i of a list, counted from 0; past the last there is none (12)
 unfoldable pub entryIn : ℕ → List Entry → Found
 entryIn i [] = missing NotBelow
 entryIn zero (e ∷ es) = found e
 entryIn (suc i) (e ∷ es) = entryIn i es
 
+-- entry i of what bytes mean
 unfoldable pub find : ℕ → Meaning → Found
 find i (bundle es) = entryIn i es
 find i (refused r) = missing r
@@ -51,7 +50,7 @@ unfoldable pub toldOf : Found → Told
 toldOf (found e) = told.Entry (e .kind) (e .rows) (e .columns)
 toldOf (missing r) = told.Refused r
 
--- words are lent for it: exactly as many as its body has
+-- words are lent for it: exactly as many as its body has (4)
 abbrev pub fitting : Bool → Entry → Found
 fitting true e = found e
 fitting false e = missing WrongLength
@@ -59,6 +58,10 @@ fitting false e = missing WrongLength
 unfoldable pub lentFor : ℕ → Found → Found
 lentFor n (found e) = fitting (eqb n (bodyWords (e .rows) (e .columns))) e
 lentFor n (missing r) = missing r
+
+-- entry i of a bundle, and words lent for it
+abbrev pub lentEntry : (ℕ → Outcome) → ℕ → List ℕ → List ℕ → Found
+lentEntry rule i b words = lentFor (length words) (find i (meaning rule b))
 
 -- what the lent words then hold: the rows in the order of kind 1; or what they held before
 unfoldable pub unpackedOf : Found → List ℕ → List ℕ

@@ -1,7 +1,8 @@
 -- What bytes say as a bundle: its entries, or the refusal that the order of the checks gives first.
-use mathlib.Core.Bool.{Bool, true, false, not, cond}
+use mathlib.Core.Path.{_≡_}
+use mathlib.Core.Bool.{true, not, cond}
 use mathlib.Core.List.{List, [], _∷_}
-use Prim.Native.Nat.{ℕ, zero, suc, _+_, _*_}
+use Prim.Native.Nat.{ℕ, zero, suc, _+_, _*_, _<_, _≤_}
 use lib.Dec.{eqb, ltb}
 use lib.ListN.{length}
 use Rattle.words.specs.Words.{wordsOf, rowsOf}
@@ -25,7 +26,9 @@ pub record Entry : Type 0 where
 unfoldable pub bodyWords : ℕ → ℕ → ℕ
 bodyWords rows columns = rows * wordsOf columns
 
--- ---- where things stand: two bytes for the count, ten for each entry, then the bodies
+-- ---- where things stand
+
+-- two bytes for the count; ten for each entry, its kind, rows and columns in two each, and in four where its body begins, counted from the bundle's first byte; then the bodies
 
 abbrev pub headBytes : ℕ → ℕ
 headBytes n = 2 + 10 * n
@@ -54,7 +57,7 @@ matrixAt kind p rows columns b = rowsOf (wordsOf columns) rows (wordsAt kind p (
 
 -- ---- the checks of an entry
 
--- A rule says what a kind gets. This one takes kind 1, gives kind 2 what it is told, and knows no other.
+-- A rule says what a kind gets. This one takes kind 1, gives kind 2 what it is told, and knows no other (23).
 unfoldable pub kindRule : Outcome → ℕ → Outcome
 kindRule two kind = cond (eqb kind 2) two (refuseIf (not (eqb kind 1)) BadKind)
 
@@ -62,26 +65,29 @@ kindRule two kind = cond (eqb kind 2) two (refuseIf (not (eqb kind 1)) BadKind)
 abbrev pub bothKinds : ℕ → Outcome
 bothKinds = kindRule Done
 
+-- too many rows; no columns, or too many (24)
 unfoldable pub badShape : ℕ → ℕ → Outcome
 badShape rows columns = refuseIf (ltb 512 rows) BadShape andThen refuseIf (eqb columns 0) BadShape andThen refuseIf (ltb 1024 columns) BadShape
 
--- a body that should begin at byte p: where the contents say it is, inside the bundle, its padding zero
+-- a body that should begin at byte p: where the contents say it is (25), inside the bundle (26), its padding zero (5)
 unfoldable pub bodyChecks : ℕ → ℕ → ℕ → ℕ → ℕ → List ℕ → Outcome
 bodyChecks kind rows columns offset p b =
     refuseIf (not (eqb offset p)) WrongOffset andThen refuseIf (ltb (length b) (p + 8 * bodyWords rows columns)) BodyPast
     andThen refuseIf (not (narrow columns (matrixAt kind p rows columns b))) DirtyPadding
 
+-- entry i, whose body should begin at byte p: its kind, its shape, then the body
 unfoldable pub entryChecks : (ℕ → Outcome) → ℕ → ℕ → List ℕ → Outcome
 entryChecks rule i p b =
     rule (kindAt i b) andThen badShape (rowsAt i b) (columnsAt i b) andThen bodyChecks (kindAt i b) (rowsAt i b) (columnsAt i b) (offsetAt i b) p b
 
--- n entries from entry i on, one after the other, their bodies from byte p on; then nothing may be left
+-- n entries from entry i on, one after the other, their bodies from byte p on; then nothing may be left (27)
 unfoldable pub entriesChecks : (ℕ → Outcome) → ℕ → ℕ → ℕ → List ℕ → Outcome
 entriesChecks rule zero i p b = refuseIf (not (eqb p (length b))) BytesLeft
 entriesChecks rule (suc n) i p b = entryChecks rule i p b andThen entriesChecks rule n (i + 1) (p + 8 * wordsIn i b) b
 
 -- ---- the whole
 
+-- the bundle's length (20), its count (21), room for the contents (22); then entry by entry
 unfoldable pub bundleChecks : (ℕ → Outcome) → List ℕ → Outcome
 bundleChecks rule b =
     refuseIf (ltb (length b) 2) BundleSize andThen refuseIf (ltb 65535 (length b)) BundleSize
@@ -89,6 +95,38 @@ bundleChecks rule b =
     andThen refuseIf (ltb (length b) (headBytes (countOf b))) ContentsCut
     andThen entriesChecks rule (countOf b) 0 (headBytes (countOf b)) b
 
+-- ---- what passing means
+
+-- a shape that passes
+pub record Shaped (rows columns : ℕ) : Type 0 where
+  pub few : rows ≤ 512
+  pub some : 0 < columns
+  pub wide : columns ≤ 1024
+
+-- the body stands where it should, inside the bundle, with no one past its last column
+pub record Stands (kind rows columns offset p : ℕ) (b : List ℕ) : Type 0 where
+  pub here : offset ≡ p
+  pub inside : p + 8 * bodyWords rows columns ≤ length b
+  pub clean : narrow columns (matrixAt kind p rows columns b) ≡ true
+
+-- entry i passes: its kind is taken, it has a shape, and its body stands at byte p
+pub record Placed (rule : ℕ → Outcome) (i p : ℕ) (b : List ℕ) : Type 0 where
+  pub taken : rule (kindAt i b) ≡ Done
+  pub shape : Shaped (rowsAt i b) (columnsAt i b)
+  pub body : Stands (kindAt i b) (rowsAt i b) (columnsAt i b) (offsetAt i b) p b
+
+-- bytes pass as a bundle
+pub record Accepted (rule : ℕ → Outcome) (b : List ℕ) : Type 0 where
+  pub long : 2 ≤ length b
+  pub short : length b ≤ 65535
+  pub any : 0 < countOf b
+  pub few : countOf b ≤ 64
+  pub whole : headBytes (countOf b) ≤ length b
+  pub entries : entriesChecks rule (countOf b) 0 (headBytes (countOf b)) b ≡ Done
+
+-- ---- what bytes mean
+
+-- entry i: its numbers as the contents give them, its matrix from where they say that it begins
 unfoldable pub entryAt : ℕ → List ℕ → Entry
 entryAt i b =
     record { kind = kindAt i b; rows = rowsAt i b; columns = columnsAt i b; matrix = matrixAt (kindAt i b) (offsetAt i b) (rowsAt i b) (columnsAt i b) b }
@@ -98,13 +136,16 @@ unfoldable pub entriesFrom : ℕ → ℕ → List ℕ → List Entry
 entriesFrom zero i b = []
 entriesFrom (suc n) i b = entryAt i b ∷ entriesFrom n (i + 1) b
 
+-- as many as the count says
 unfoldable pub entriesOf : List ℕ → List Entry
 entriesOf b = entriesFrom (countOf b) 0 b
 
+-- what bytes mean: the entries of a bundle, or why they are none
 pub data Meaning : Type 0 where
   refused : Refusal → Meaning
   bundle : List Entry → Meaning
 
+-- the entries, where the checks refuse nothing
 abbrev pub meantBy : Outcome → List Entry → Meaning
 meantBy Done es = bundle es
 meantBy (Refused r) es = refused r

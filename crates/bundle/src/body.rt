@@ -1,7 +1,7 @@
 // Numbers and words in bytes, and a body's padding.
 ghost use mathlib.Core.Path.{_≡_};
 ghost use mathlib.Core.Bool.{not};
-ghost use Prim.Native.Nat.{_+_, _*_, _/_, _%_, _^_, _≤_, _<_};
+ghost use Prim.Native.Nat.{_+_, _*_, _/_, _^_, _≤_, _<_};
 ghost use lib.Dec.{eqb};
 ghost use lib.ListN.{length};
 ghost use Rattle.refusals.specs.Checks.{narrow};
@@ -9,8 +9,9 @@ ghost use Rattle.wire.specs.Bytes.{num};
 ghost use Rattle.wire.specs.Kinds.{order, wordsAt};
 ghost use Rattle.bundle.specs.Bundle.{bodyWords, matrixAt};
 
+// a cast by itself: the caller then owes no fact but the index
 fn wide(x: u8) -> u64
-    ensures { λ r. ⌜ r ≡ x ⌝ }
+    ensures { λ r. ⌜ (r ≡ x) × (r ≤ 255) ⌝ }
 {
     x as u64
 }
@@ -72,18 +73,12 @@ fn is_past(b: &[u8], kind: usize, at: usize, s: usize) -> bool
     wire::past(kind, number(b, at, 8), s)
 }
 
-fn odd_bits(columns: usize) -> usize
-    ensures { λ s. ⌜ s ≡ columns % 64 ⌝ }
-{
-    columns % 64
-}
-
 // whether a body has no one past its last column: only the last words of its rows are read
 pub(crate) fn is_clean(b: &[u8], kind: usize, at: usize, rows: usize, columns: usize) -> bool
     requires { ⌜ (rows ≤ 512) × (0 < columns) × (columns ≤ 1024) × (at + 8 * bodyWords rows columns ≤ length (now b)) ⌝ }
     ensures { λ r. ⌜ r ≡ narrow columns (matrixAt kind at rows columns (now (b .entry))) ⌝ }
 {
-    let s = odd_bits(columns);
+    let s = refusals::odd_bits(columns);
     if s == 0 {
         return true;
     }

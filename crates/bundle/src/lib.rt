@@ -3,9 +3,8 @@ mod body;
 pub mod ruled;
 
 ghost use mathlib.Core.Path.{_≡_};
-ghost use lib.ListN.{length};
 ghost use Rattle.bundle.specs.Bundle.{bothKinds, meaning};
-ghost use Rattle.bundle.specs.Answers.{countedNumber, toldNumber, countedIn, find, toldOf, lentFor, unpackedOf};
+ghost use Rattle.bundle.specs.Answers.{countedNumber, toldNumber, countedIn, find, toldOf, lentEntry, unpackedOf};
 use refusals::Outcome;
 use refusals::Refusal;
 
@@ -63,7 +62,7 @@ pub fn entry(bytes: &[u8], i: usize) -> Told
 
 // the words of entry i, in the order of kind 1 whatever its own; and its three numbers, the kind as it is stored
 pub fn unpack(bytes: &[u8], i: usize, words: &mut [u64]) -> Told
-    ensures { λ r. ⌜ (r ≡ toldOf (lentFor (length (now (words .entry))) (find i (meaning bothKinds (now (bytes .entry)))))) × (now (words .exit) ≡ unpackedOf (lentFor (length (now (words .entry))) (find i (meaning bothKinds (now (bytes .entry))))) (now (words .entry))) ⌝ }
+    ensures { λ r. ⌜ (r ≡ toldOf (lentEntry bothKinds i (now (bytes .entry)) (now (words .entry)))) × (now (words .exit) ≡ unpackedOf (lentEntry bothKinds i (now (bytes .entry)) (now (words .entry))) (now (words .entry))) ⌝ }
 {
     ruled::unpack(Outcome::Done, bytes, i, words)
 }

@@ -4,11 +4,10 @@ ghost use Prim.Native.Nat.{_+_, _*_, _≤_, _<_};
 ghost use lib.ListN.{length};
 ghost use Rattle.refusals.specs.declared.Outcome.the-variants.{Done};
 ghost use Rattle.refusals.specs.Outcome.{_andThen_};
-ghost use Rattle.words.specs.Words.{wordsOf};
 ghost use Rattle.wire.specs.Kinds.{wordsAt};
-ghost use Rattle.bundle.specs.Bundle.{bodyWords, headBytes, countOf, kindAt, rowsAt, columnsAt, offsetAt, wordsIn, kindRule, badShape, bodyChecks, entryChecks, entriesChecks, bundleChecks, meaning};
+ghost use Rattle.bundle.specs.Bundle.{headBytes, countOf, kindAt, rowsAt, columnsAt, offsetAt, wordsIn, kindRule, badShape, bodyChecks, entryChecks, entriesChecks, bundleChecks, meaning};
 ghost use Rattle.bundle.specs.declared.Told.the-variants as told;
-ghost use Rattle.bundle.specs.Answers.{countedIn, find, toldOf, lentFor, unpackedOf};
+ghost use Rattle.bundle.specs.Answers.{countedIn, find, toldOf, lentEntry, unpackedOf};
 use crate::Counted;
 use crate::Told;
 use crate::body;
@@ -207,7 +206,7 @@ fn fill(b: &[u8], i: usize, words: &mut [u64])
 }
 
 pub fn unpack(two: Outcome, bytes: &[u8], i: usize, words: &mut [u64]) -> Told
-    ensures { λ r. ⌜ (r ≡ toldOf (lentFor (length (now (words .entry))) (find i (meaning (kindRule two) (now (bytes .entry)))))) × (now (words .exit) ≡ unpackedOf (lentFor (length (now (words .entry))) (find i (meaning (kindRule two) (now (bytes .entry))))) (now (words .entry))) ⌝ }
+    ensures { λ r. ⌜ (r ≡ toldOf (lentEntry (kindRule two) i (now (bytes .entry)) (now (words .entry)))) × (now (words .exit) ≡ unpackedOf (lentEntry (kindRule two) i (now (bytes .entry)) (now (words .entry))) (now (words .entry))) ⌝ }
 {
     let o = check(two, bytes);
     match o {

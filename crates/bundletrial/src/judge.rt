@@ -37,23 +37,21 @@ fn unpacked(b: &[u8], i: usize, words: &mut [u64]) -> bool {
     tells(told, k, r, c) & tells(entry, k, r, c) & plain::holds(b, i, words)
 }
 
-fn entry(b: &[u8], i: usize, words: &mut [u64]) -> bool {
-    let n = plain::size(b, i);
-    if words.len() < n {
-        return false;
-    }
-    unpacked(b, i, &mut words[..n])
+fn entry(b: &[u8], i: usize) -> bool {
+    let mut words = [0u64; 8192];
+    let part = longs::part_mut(&mut words, plain::size(b, i));
+    unpacked(b, i, part)
 }
 
 // whether the bundle is accepted, and each entry is right
-fn accepted(b: &[u8], words: &mut [u64]) -> bool {
+fn accepted(b: &[u8]) -> bool {
     let n = plain::count(b);
     if !counts(bundle::read(b), n) {
         return false;
     }
     let mut i = 0;
     while i < n {
-        if !entry(b, i, words) {
+        if !entry(b, i) {
             return false;
         }
         i += 1;
@@ -74,32 +72,23 @@ pub fn refused_at(b: &[u8], i: usize, words: &mut [u64], told: u8, number: u8) -
     (entry.number() == told) & untouched(b, i, words, number)
 }
 
-fn refused(b: &[u8], words: &mut [u64], number: u8) -> bool {
+fn refused(b: &[u8], number: u8) -> bool {
+    let mut words = [0u64; 3];
     let counted = bundle::read(b);
-    let first = refused_at(b, 0, words, number, number);
-    let last = refused_at(b, small::FAR, words, number, number);
+    let first = refused_at(b, 0, &mut words, number, number);
+    let last = refused_at(b, small::FAR, &mut words, number, number);
     (counted.number() == number) & first & last
 }
 
 // whether the calls answer what the plain reader finds, which is that number if it is not ANY
-pub fn right(b: &[u8], words: &mut [u64], number: u8) -> bool {
+pub fn right(b: &[u8], number: u8) -> bool {
     let due = plain::due(b);
     if number != ANY && due != number {
         return false;
     }
     if due == 0 {
-        return accepted(b, words);
+        accepted(b)
+    } else {
+        refused(b, due)
     }
-    if words.len() < 3 {
-        return false;
-    }
-    refused(b, &mut words[..3], due)
-}
-
-// the same for the buffer's first bytes
-pub fn begins_right(b: &[u8], len: usize, words: &mut [u64], number: u8) -> bool {
-    if b.len() < len {
-        return false;
-    }
-    right(&b[..len], words, number)
 }

@@ -11,6 +11,21 @@ pub fn put(s: &mut [u64], i: usize, v: u64) {
     }
 }
 
+// the first n words, or none where there are fewer
+pub fn part(s: &[u64], n: usize) -> &[u64] {
+    if s.len() < n {
+        return &s[0..0];
+    }
+    &s[0..n]
+}
+
+pub fn part_mut(s: &mut [u64], n: usize) -> &mut [u64] {
+    if s.len() < n {
+        return &mut s[0..0];
+    }
+    &mut s[0..n]
+}
+
 // what stands at a place before a call
 fn stale(i: usize) -> u64 {
     draw::start(i, 11400714819323198485)
@@ -36,13 +51,4 @@ pub fn kept(s: &[u64]) -> bool {
         i += 1;
     }
     true
-}
-
-// that many zero words
-pub fn clear(s: &mut [u64], n: usize) {
-    let mut i = 0;
-    while i < n {
-        put(s, i, 0);
-        i += 1;
-    }
 }

@@ -1,5 +1,6 @@
 // Tries the bundle calls on fixed bundles, against a reader that works bit by bit, and writes how many tries went wrong: none should.
 mod draw;
+mod groups;
 mod judge;
 mod longs;
 mod maker;
@@ -25,13 +26,17 @@ fn say(name: &[u8], t: Tally) {
     io::write_all(1, b"\n");
 }
 
+fn readings() {
+    say(b"bundles ", groups::all(groups::BUNDLES));
+    say(b"lengths ", groups::all(groups::LENGTHS));
+    say(b"damages ", groups::all(groups::DAMAGES));
+    say(b"limits ", groups::all(groups::LIMITS));
+    say(b"faults ", groups::all(groups::FAULTS));
+}
+
 fn main() {
-    say(b"bundles ", tries::all(tries::BUNDLES));
-    say(b"lengths ", tries::all(tries::LENGTHS));
-    say(b"damages ", tries::all(tries::DAMAGES));
-    say(b"limits ", tries::all(tries::LIMITS));
-    say(b"faults ", order::all());
+    readings();
     say(b"places ", places::all());
-    say(b"writings ", rewritten::all());
-    say(b"writing refusals ", unwritten::all());
+    say(b"writings ", groups::all(groups::WRITINGS));
+    say(b"writing refusals ", groups::all(groups::REFUSALS));
 }

@@ -11,6 +11,21 @@ pub fn put(s: &mut [u8], i: usize, v: u8) {
     }
 }
 
+// the first n bytes, or none where there are fewer
+pub fn part(s: &[u8], n: usize) -> &[u8] {
+    if s.len() < n {
+        return &s[0..0];
+    }
+    &s[0..n]
+}
+
+pub fn part_mut(s: &mut [u8], n: usize) -> &mut [u8] {
+    if s.len() < n {
+        return &mut s[0..0];
+    }
+    &mut s[0..n]
+}
+
 // the two bytes of a number, the lower first
 pub fn put_two(s: &mut [u8], i: usize, x: usize) {
     put(s, i, small::low(x));

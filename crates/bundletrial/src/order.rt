@@ -4,7 +4,6 @@ use super::maker;
 use super::octets;
 use super::plans;
 use super::small;
-use super::tally::Tally;
 
 // whether a fault is in a set, which is a number
 pub fn has(set: usize, fault: usize) -> bool {
@@ -93,20 +92,9 @@ fn spoil(b: &mut [u8], set: usize) -> u8 {
     first
 }
 
-fn right(b: &mut [u8], words: &mut [u64], set: usize) -> bool {
-    let len = maker::make(b, plans::little(2, 2));
-    let first = spoil(b, set);
-    (len == 78) & judge::begins_right(b, length(set), words, first)
-}
-
-pub fn all() -> Tally {
+pub fn right(set: usize) -> bool {
     let mut b = [0u8; 80];
-    let mut words = [0u64; 8];
-    let mut t = Tally::none();
-    let mut set = 0;
-    while set < 8192 {
-        t = t.count(right(&mut b, &mut words, set));
-        set += 1;
-    }
-    t
+    let len = maker::make(&mut b, plans::little(2, 2));
+    let first = spoil(&mut b, set);
+    (len == 78) & judge::right(octets::part(&b, length(set)), first)
 }

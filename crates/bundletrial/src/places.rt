@@ -1,6 +1,8 @@
 // Entries that are none, and words that are too few or too many.
 use super::judge;
+use super::longs;
 use super::maker;
+use super::octets;
 use super::plain;
 use super::plans;
 use super::plans::Plan;
@@ -59,30 +61,28 @@ fn number(n: usize) -> u8 {
     if n < 6 { 4 } else { 12 }
 }
 
-fn right(b: &[u8], words: &mut [u64], i: usize, n: usize) -> bool {
-    let len = length(n, plain::size(b, i));
-    if words.len() < len {
-        return false;
-    }
-    let part = &mut words[..len];
+fn right(b: &[u8], i: usize, n: usize) -> bool {
+    let mut words = [0u64; 256];
+    let part = longs::part_mut(&mut words, length(n, plain::size(b, i)));
     judge::refused_at(b, index(n, i, plain::count(b)), part, told(n), number(n))
 }
 
-// all entries of one bundle
-fn entries(b: &mut [u8], words: &mut [u64], plan: Plan, tally: Tally) -> Tally {
-    let len = maker::make(b, plan);
-    if b.len() < len {
-        return tally.count(false);
-    }
-    let part = &b[..len];
-    let end = small::product(22, plan.entries);
+// all entries of a bundle
+fn entries(b: &[u8], count: usize, tally: Tally) -> Tally {
+    let end = small::product(22, count);
     let mut t = tally;
     let mut n = 0;
     while n < end {
-        t = t.count(right(part, words, n / 22, n % 22));
+        t = t.count(right(b, n / 22, n % 22));
         n += 1;
     }
     t
+}
+
+fn made(plan: Plan, tally: Tally) -> Tally {
+    let mut b = [0u8; 4096];
+    let len = maker::make(&mut b, plan);
+    entries(octets::part(&b, len), plan.entries, tally)
 }
 
 fn nth(n: usize) -> Plan {
@@ -98,12 +98,10 @@ fn nth(n: usize) -> Plan {
 }
 
 pub fn all() -> Tally {
-    let mut b = [0u8; 4096];
-    let mut words = [0u64; 256];
     let mut t = Tally::none();
     let mut n = 0;
     while n < 8 {
-        t = entries(&mut b, &mut words, nth(n), t);
+        t = made(nth(n), t);
         n += 1;
     }
     t

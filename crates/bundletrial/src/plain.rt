@@ -92,15 +92,23 @@ fn dirty(b: &[u8], at: usize, kind: usize, columns: usize, rows: usize) -> bool 
     false
 }
 
+fn shape_due(kind: usize, rows: usize, columns: usize) -> u8 {
+    if kind != 1 && kind != 2 {
+        return 23;
+    }
+    if 512 < rows || columns == 0 || 1024 < columns {
+        return 24;
+    }
+    0
+}
+
 fn entry_due(b: &[u8], i: usize, at: usize) -> u8 {
     let k = kind(b, i);
     let r = rows(b, i);
     let c = columns(b, i);
-    if k != 1 && k != 2 {
-        return 23;
-    }
-    if 512 < r || c == 0 || 1024 < c {
-        return 24;
+    let number = shape_due(k, r, c);
+    if number != 0 {
+        return number;
     }
     if offset(b, i) != at {
         return 25;
@@ -141,16 +149,22 @@ pub fn due(b: &[u8]) -> u8 {
     entries_due(b, n)
 }
 
-// word j of row r in the order of kind 1, zero past the last column
+// column c of row r, zero past the last one
+fn digit(b: &[u8], at: usize, kind: usize, columns: usize, r: usize, c: usize) -> u64 {
+    if c < columns && bit(b, at, kind, small::width(columns), r, c) {
+        1
+    } else {
+        0
+    }
+}
+
+// word j of row r in the order of kind 1
 fn word(b: &[u8], at: usize, kind: usize, columns: usize, r: usize, j: usize) -> u64 {
-    let w = small::width(columns);
     let last = small::sum(small::product(64, j), 63);
     let mut x = 0u64;
     let mut k = 0;
     while k < 64 {
-        let c = small::less(last, k);
-        let one = c < columns && bit(b, at, kind, w, r, c);
-        x = (x << 1) | if one { 1 } else { 0 };
+        x = (x << 1) | digit(b, at, kind, columns, r, small::less(last, k));
         k += 1;
     }
     x

@@ -1,11 +1,11 @@
 // Bundles that are accepted, unpacked entry by entry and written again.
+use super::longs;
 use super::maker;
 use super::octets;
 use super::plain;
 use super::plans;
 use super::shorts;
 use super::small;
-use super::tally::Tally;
 use pack::Written;
 
 fn field(b: &[u8], i: usize, f: usize) -> usize {
@@ -24,6 +24,12 @@ fn list(b: &[u8], s: &mut [u16], f: usize) {
         shorts::put(s, i, small::short(field(b, i, f)));
         i += 1;
     }
+}
+
+fn fields(b: &[u8], f: usize) -> [u16; 64] {
+    let mut s = [0u16; 64];
+    list(b, &mut s, f);
+    s
 }
 
 // unpacks entry i into the words from word a on; where they end
@@ -61,51 +67,40 @@ fn length(w: Written) -> usize {
 // the entries of b with these words; the length answered
 fn write(b: &[u8], words: &[u64], out: &mut [u8]) -> usize {
     let n = plain::count(b);
-    if 64 < n {
+    let kinds = fields(b, 0);
+    let rows = fields(b, 1);
+    let columns = fields(b, 2);
+    length(pack::write(
+        shorts::part(&kinds, n),
+        shorts::part(&rows, n),
+        shorts::part(&columns, n),
+        words,
+        out,
+    ))
+}
+
+// the entries of b, unpacked and written; the length answered, or FAR where they are not unpacked
+fn again(b: &[u8], out: &mut [u8]) -> usize {
+    let mut words = [0u64; 8192];
+    let a = unpack_all(b, &mut words);
+    if a == small::FAR {
         return small::FAR;
     }
-    let mut kinds = [0u16; 64];
-    let mut rows = [0u16; 64];
-    let mut columns = [0u16; 64];
-    list(b, &mut kinds, 0);
-    list(b, &mut rows, 1);
-    list(b, &mut columns, 2);
-    length(pack::write(&kinds[..n], &rows[..n], &columns[..n], words, out))
+    write(b, longs::part(&words, a), out)
 }
 
 // whether the same bytes come out, and nothing past them
-fn same(b: &[u8], words: &mut [u64], out: &mut [u8]) -> bool {
+fn same(b: &[u8], out: &mut [u8]) -> bool {
     octets::lay(out);
-    let a = unpack_all(b, words);
-    if words.len() < a {
-        return false;
-    }
-    let len = write(b, &words[..a], out);
+    let len = again(b, out);
     (len == b.len()) & octets::begins(b, out) & octets::kept(out, len)
 }
 
 // with a room as long as needed, or longer
-fn right(b: &mut [u8], words: &mut [u64], out: &mut [u8], n: usize) -> bool {
-    let len = maker::make(b, plans::nth(n));
-    let room = small::sum(len, small::product(7, n % 5));
-    if b.len() < len {
-        return false;
-    }
-    if out.len() < room {
-        return false;
-    }
-    same(&b[..len], words, &mut out[..room])
-}
-
-pub fn all() -> Tally {
+pub fn right(n: usize) -> bool {
     let mut b = [0u8; 65600];
-    let mut words = [0u64; 8192];
     let mut out = [0u8; 65600];
-    let mut t = Tally::none();
-    let mut n = 0;
-    while n < plans::PLANS {
-        t = t.count(right(&mut b, &mut words, &mut out, n));
-        n += 1;
-    }
-    t
+    let len = maker::make(&mut b, plans::nth(n));
+    let room = small::sum(len, small::product(7, n % 5));
+    same(octets::part(&b, len), octets::part_mut(&mut out, room))
 }

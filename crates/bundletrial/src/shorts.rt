@@ -6,14 +6,10 @@ pub fn put(s: &mut [u16], i: usize, v: u16) {
     }
 }
 
-// two numbers, and others all alike
-pub fn lay(s: &mut [u16], first: u16, second: u16, rest: u16) {
-    let n = s.len();
-    let mut i = 2;
-    while i < n {
-        put(s, i, rest);
-        i += 1;
+// the first n numbers, or none where there are fewer
+pub fn part(s: &[u16], n: usize) -> &[u16] {
+    if s.len() < n {
+        return &s[0..0];
     }
-    put(s, 0, first);
-    put(s, 1, second);
+    &s[0..n]
 }

@@ -5,7 +5,6 @@ use super::octets;
 use super::plans;
 use super::plans::Plan;
 use super::small;
-use super::tally::Tally;
 
 // what stands at the place becomes another; a place that is FAR is none, and a length that is FAR the bundle's own
 struct Try {
@@ -16,15 +15,6 @@ struct Try {
     len: usize,
     number: u8,
 }
-
-// bundles as they are made, all accepted
-pub const BUNDLES: usize = 0;
-// one bundle cut at each byte, and with more bytes
-pub const LENGTHS: usize = 1;
-// each byte of one bundle in turn another
-pub const DAMAGES: usize = 2;
-// numbers and lengths at and past their bounds
-pub const LIMITS: usize = 3;
 
 fn bundles(n: usize) -> Try {
     let plan = plans::nth(n);
@@ -224,15 +214,6 @@ fn nth(group: usize, n: usize) -> Try {
     }
 }
 
-fn tries(group: usize) -> usize {
-    match group {
-        0 => plans::PLANS,
-        1 => 432,
-        2 => 5824,
-        _ => 80,
-    }
-}
-
 // small values, the next value, and each bit changed
 fn other(x: u8, how: usize) -> u8 {
     match how {
@@ -247,14 +228,10 @@ fn other(x: u8, how: usize) -> u8 {
 }
 
 fn change(b: &mut [u8], place: usize, how: usize, value: usize) {
-    let x = octets::get(b, place);
-    if how < 14 {
-        octets::put(b, place, other(x, how));
-        return;
-    }
-    octets::put_two(b, place, value);
-    if how == 15 {
-        octets::put_two(b, small::sum(place, 2), value / 65536);
+    match how {
+        14 => octets::put_two(b, place, value),
+        15 => octets::put_four(b, place, value),
+        _ => octets::put(b, place, other(octets::get(b, place), how)),
     }
 }
 
@@ -262,22 +239,11 @@ fn length(len: usize, own: usize) -> usize {
     if len == small::FAR { own } else { len }
 }
 
-fn right(b: &mut [u8], words: &mut [u64], t: Try) -> bool {
-    let plan = t.plan;
-    let own = maker::make(b, plan);
-    change(b, t.place, t.how, t.value);
-    judge::begins_right(b, length(t.len, own), words, t.number)
-}
-
-pub fn all(group: usize) -> Tally {
+pub fn right(group: usize, n: usize) -> bool {
     let mut b = [0u8; 65600];
-    let mut words = [0u64; 8192];
-    let end = tries(group);
-    let mut t = Tally::none();
-    let mut n = 0;
-    while n < end {
-        t = t.count(right(&mut b, &mut words, nth(group, n)));
-        n += 1;
-    }
-    t
+    let t = nth(group, n);
+    let plan = t.plan;
+    let own = maker::make(&mut b, plan);
+    change(&mut b, t.place, t.how, t.value);
+    judge::right(octets::part(&b, length(t.len, own)), t.number)
 }

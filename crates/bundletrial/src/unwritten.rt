@@ -5,7 +5,6 @@ use super::order;
 use super::plain;
 use super::shorts;
 use super::small;
-use super::tally::Tally;
 
 // the tries with small entries come first
 const SMALL: usize = 7680;
@@ -228,34 +227,23 @@ fn answers(
     }
 }
 
-// entries past the second have no rows
-fn lay(s: &mut [u16], f: usize, n: usize) {
-    shorts::lay(s, first(f, n), second(f, n), if f == 1 { 0 } else { 1 });
+// kinds, rows or columns of the entries; those past the second have no rows
+fn list(f: usize, n: usize) -> [u16; 66] {
+    let rest = if f == 1 { 0 } else { 1 };
+    let mut s = [rest; 66];
+    s[0] = first(f, n);
+    s[1] = second(f, n);
+    s
 }
 
 fn listed(words: &[u64], out: &mut [u8], n: usize) -> bool {
-    let mut kind_list = [0u16; 66];
-    let mut row_list = [0u16; 66];
-    let mut column_list = [0u16; 66];
-    lay(&mut kind_list, 0, n);
-    lay(&mut row_list, 1, n);
-    lay(&mut column_list, 2, n);
-    let k = kinds(n);
-    let r = rows(n);
-    let c = columns(n);
-    if 66 < k {
-        return false;
-    }
-    if 66 < r {
-        return false;
-    }
-    if 66 < c {
-        return false;
-    }
+    let kind_list = list(0, n);
+    let row_list = list(1, n);
+    let column_list = list(2, n);
     answers(
-        &kind_list[..k],
-        &row_list[..r],
-        &column_list[..c],
+        shorts::part(&kind_list, kinds(n)),
+        shorts::part(&row_list, rows(n)),
+        shorts::part(&column_list, columns(n)),
         words,
         out,
         number(n),
@@ -263,28 +251,10 @@ fn listed(words: &[u64], out: &mut [u8], n: usize) -> bool {
 }
 
 // words that are all zero, but for the dirty one
-fn right(words: &mut [u64], out: &mut [u8], n: usize) -> bool {
-    let len = words_of(n);
-    let room = room_of(n);
-    if words.len() < len {
-        return false;
-    }
-    if out.len() < room {
-        return false;
-    }
-    longs::clear(words, len);
-    longs::put(words, dirt(n), dirty_word(dirt(n)));
-    listed(&words[..len], &mut out[..room], n)
-}
-
-pub fn all() -> Tally {
+pub fn right(n: usize) -> bool {
     let mut words = [0u64; 8192];
     let mut out = [0u8; 65600];
-    let mut t = Tally::none();
-    let mut n = 0;
-    while n < 7692 {
-        t = t.count(right(&mut words, &mut out, n));
-        n += 1;
-    }
-    t
+    longs::put(&mut words, dirt(n), dirty_word(dirt(n)));
+    let part = longs::part(&words, words_of(n));
+    listed(part, octets::part_mut(&mut out, room_of(n)), n)
 }

@@ -4,7 +4,7 @@ use mathlib.Core.Path.{_≡_, sym, ap, _∙_}
 use mathlib.Core.List.{List}
 use Prim.Native.Nat.{ℕ}
 use lib.ListN.{length}
-use Rattle.words.proofs.Slices.{Slice}
+use Rattle.words.specs.Words.{Slice}
 use Rattle.refusals.specs.declared.Outcome.{Outcome}
 use Rattle.refusals.specs.Outcome.{outcomeNumber}
 use Rattle.matrix.specs.declared.Answer as matrix

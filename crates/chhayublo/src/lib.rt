@@ -1,4 +1,4 @@
-// The calls with C's calling convention. A slice is passed as a pointer and a length, an array as a pointer; include/chhayublo.h declares all of it for C.
+// The calls with C's calling convention. A slice is passed as a pointer and a length; include/chhayublo.h declares all of it for C.
 ghost use mathlib.Core.Path.{_≡_};
 ghost use lib.ListN.{length};
 ghost use Rattle.gf2.specs.Rows.{part};
@@ -13,9 +13,8 @@ ghost use Rattle.packets.specs.declared.Verdict.{Verdict};
 ghost use Rattle.packets.specs.Solving.{solving};
 ghost use Rattle.packets.specs.Contradiction.{naming};
 ghost use Rattle.bundle.specs.Bundle.{bothKinds, meaning};
-ghost use Rattle.bundle.specs.Answers.{countedIn, find, toldOf, lentFor, unpackedOf};
-ghost use Rattle.pack.specs.Encode.{encode};
-ghost use Rattle.pack.specs.Writing.{given, bundleBytes, writeChecks, writtenBy, outputBy};
+ghost use Rattle.bundle.specs.Answers.{countedIn, find, toldOf, lentEntry, unpackedOf};
+ghost use Rattle.pack.specs.Writing.{written, output};
 ghost use Rattle.chhayublo.specs.Calls.{rowAt, seenAnswer, seenVerdict, seenCount, seenEntry, seenLength};
 use bundle::Counted;
 use bundle::Told;
@@ -222,7 +221,7 @@ pub extern "C" fn chhayublo_bundle_entry(bytes: &[u8], i: usize) -> Entry
 
 #[no_mangle]
 pub extern "C" fn chhayublo_bundle_unpack(bytes: &[u8], i: usize, words: &mut [u64]) -> Entry
-    ensures { λ r. ⌜ (r ≡ seenEntry (toldOf (lentFor (length (now (words .entry))) (find i (meaning bothKinds (now (bytes .entry))))))) × (now (words .exit) ≡ unpackedOf (lentFor (length (now (words .entry))) (find i (meaning bothKinds (now (bytes .entry))))) (now (words .entry))) ⌝ }
+    ensures { λ r. ⌜ (r ≡ seenEntry (toldOf (lentEntry bothKinds i (now (bytes .entry)) (now (words .entry))))) × (now (words .exit) ≡ unpackedOf (lentEntry bothKinds i (now (bytes .entry)) (now (words .entry))) (now (words .entry))) ⌝ }
 {
     seen_entry(bundle::unpack(bytes, i, words))
 }
@@ -235,7 +234,7 @@ pub extern "C" fn chhayublo_bundle_write(
     words: &[u64],
     out: &mut [u8],
 ) -> Length
-    ensures { λ r. ⌜ (r ≡ seenLength (writtenBy (writeChecks bothKinds (now (kinds .entry)) (now (rows .entry)) (now (columns .entry)) (now (words .entry)) (length (now (out .entry)))) (bundleBytes (length (now (kinds .entry))) (length (now (words .entry)))))) × (now (out .exit) ≡ outputBy (writeChecks bothKinds (now (kinds .entry)) (now (rows .entry)) (now (columns .entry)) (now (words .entry)) (length (now (out .entry)))) (encode (given (now (kinds .entry)) (now (rows .entry)) (now (columns .entry)) (now (words .entry)))) (now (out .entry))) ⌝ }
+    ensures { λ r. ⌜ (r ≡ seenLength (written bothKinds (now (kinds .entry)) (now (rows .entry)) (now (columns .entry)) (now (words .entry)) (length (now (out .entry))))) × (now (out .exit) ≡ output bothKinds (now (kinds .entry)) (now (rows .entry)) (now (columns .entry)) (now (words .entry)) (now (out .entry))) ⌝ }
 {
     let w = pack::write(kinds, rows, columns, words, out);
     match w {

@@ -18,13 +18,14 @@ use Rattle.refusals.specs.Checks.{reductionChecks}
 use Rattle.refusals.proofs.Passed.{passes-reduction}
 use Rattle.bundle.specs.Bundle.{Entry, bodyWords}
 use Rattle.bundle.proofs.Bodies.{rows-again}
+use Rattle.desk.specs.Desk.{window, tableRows}
 use Rattle.desk.proofs.Sound.{Sound}
 
 module _ (e : Entry) (s : Sound e) where
-  pub passes : (words : List ℕ) (room : ℕ) → words ≡ flat (wordsOf (e .columns)) (e .matrix) → 16 * wordsOf (e .columns) ≤ room → reductionChecks (e .rows) (e .columns) 4 words room ≡ Done
+  pub passes : (words : List ℕ) (room : ℕ) → words ≡ flat (wordsOf (e .columns)) (e .matrix) → tableRows * wordsOf (e .columns) ≤ room → reductionChecks (e .rows) (e .columns) window words room ≡ Done
   passes words room ew er =
       let rows : rowsOf (wordsOf (e .columns)) (e .rows) words ≡ e .matrix = ap (rowsOf (wordsOf (e .columns)) (e .rows)) ew ∙ rows-again e (s .sized) (s .clean) in
-      passes-reduction (e .rows) (e .columns) 4 words room (record {
+      passes-reduction (e .rows) (e .columns) window words room (record {
         few = s .shape .few;
         some = s .shape .some;
         wide = s .shape .wide;

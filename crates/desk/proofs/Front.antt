@@ -11,12 +11,11 @@ use lib.ListN.{length, drop}
 use borrow.Author.Tests.{le-leb, lt-leb}
 use Rattle.words.specs.Words.{wordsOf}
 use Rattle.refusals.specs.declared.Refusal.{Refusal}
-use Rattle.bundle.specs.Bundle.{Entry, bodyWords}
+use Rattle.bundle.specs.Bundle.{Entry, bodyWords, Shaped}
 use Rattle.bundle.specs.Answers.{Found, found, missing, toldOf}
 use Rattle.bundle.specs.declared.Told.the-variants as told
-use Rattle.bundle.proofs.Passing.{Shaped}
-use Rattle.desk.specs.declared.Reduced.{Reduced}
-use Rattle.desk.specs.declared.Reduced.the-variants as reduced
+use Rattle.desk.specs.declared.EntryReduced.{EntryReduced}
+use Rattle.desk.specs.declared.EntryReduced.the-variants as reduced
 use Rattle.desk.proofs.Sound.{Sound}
 use Rattle.desk.specs.Desk.{tableRows, roomFor, Shows, reducedWhole, reducedBy, reducedFound}
 
@@ -33,10 +32,6 @@ shows-shape (missing x) rows columns s sound = absurd s
 -- the words of a body are few
 pub few-words : (rows columns w : ℕ) → Shaped rows columns → w ≡ wordsOf columns → rows * w ≤ 8192
 few-words rows columns w s e = omega (arith, mul-le-mul-right w (s .few), s .wide, e)
-
-pub body-is : (rows columns w : ℕ) → w ≡ wordsOf columns → rows * w ≡ bodyWords rows columns
-unfolding bodyWords
-body-is rows columns w e = ap (λ (x : ℕ). rows * x) e
 
 module _ (words room : List ℕ) where
   pub not-found : (F : Found) (x : Refusal) → told.Refused x ≡ toldOf F → reducedFound F words room (reduced.Refused x) words room
@@ -63,7 +58,7 @@ module _ (words room : List ℕ) where
       moved (inr l) = inr (subst (λ (n : ℕ). length room < tableRows * wordsOf n) (sym (s .1)) l)
   unfit (missing x) rows columns s h = absurd s
 
-  pub front : (F : Found) (rows columns n : ℕ) (r : Reduced) (part room′ : List ℕ) → Shows rows columns F → n ≡ bodyWords rows columns → n ≤ length words → tableRows * wordsOf columns ≤ length room
+  pub front : (F : Found) (rows columns n : ℕ) (r : EntryReduced) (part room′ : List ℕ) → Shows rows columns F → n ≡ bodyWords rows columns → n ≤ length words → tableRows * wordsOf columns ≤ length room
       → reducedWhole F room r part room′ → reducedFound F words room r (part ++ drop n words) room′
   unfolding roomFor
   front (found e) rows columns n r part room′ s en h k w =

@@ -12,9 +12,9 @@ use Rattle.wire.specs.Kinds.{wordsAt}
 use Rattle.refusals.specs.declared.Outcome.{Outcome}
 use Rattle.refusals.specs.declared.Outcome.the-variants.{Done, Refused}
 use Rattle.refusals.proofs.Padding.{narrow-row}
-use Rattle.bundle.specs.Bundle.{Entry, bodyWords, countOf, rowsAt, columnsAt, kindAt, offsetAt, matrixAt, bundleChecks, entryAt, meaning}
+use Rattle.bundle.specs.Bundle.{Entry, bodyWords, countOf, rowsAt, columnsAt, kindAt, offsetAt, matrixAt, bundleChecks, entryAt, meaning, Shaped}
 use Rattle.bundle.specs.Answers.{found, missing, find}
-use Rattle.bundle.proofs.Passing.{Shaped, Good}
+use Rattle.bundle.proofs.Passing.{Good}
 use Rattle.bundle.proofs.Meaning.{find-refused, find-entry, find-past, good-entry}
 
 pub record Sound (e : Entry) : Type 0 where

@@ -1,8 +1,7 @@
-// What programs on bundles share: the input up to the limit, a refusal as a line, an entry unpacked and reduced.
+// What programs on bundles share: a refusal as a line, an entry unpacked and reduced.
 ghost use mathlib.Core.Path.{_≡_};
 ghost use Prim.Native.Nat.{_*_, _≤_};
 ghost use lib.ListN.{length};
-ghost use Rattle.io.specs.Counts.{Counts};
 ghost use Rattle.text.specs.Put.{Put};
 ghost use Rattle.words.specs.Words.{wordsOf};
 ghost use Rattle.bundle.specs.Bundle.{bodyWords, bothKinds, meaning};
@@ -11,10 +10,11 @@ ghost use Rattle.desk.specs.Desk.{tableRows, refusedText, Shows, reduced
 use bundle::Told;
 use refusals::Refusal;
 
-// the window of all programs
-pub const K: usize = 4;
+// how many columns a window has, in every program
+const K: usize = 4;
 
-pub enum Reduced {
+// what reducing an entry answers: its shape, and the rank and table additions of its reduced form; the refusal; or that words or room are too short
+pub enum EntryReduced {
     Entry {
         rows: usize,
         columns: usize,
@@ -23,13 +23,6 @@ pub enum Reduced {
     },
     Refused(Refusal),
     Unfit,
-}
-
-// standard input, as far as a bundle can reach and a byte more: what fills the buffer is too long
-pub fn input(buffer: &mut [u8; 65536]) -> usize
-    ensures { λ r. ⌜ Counts r (now (buffer .exit)) ⌝ }
-{
-    io::read_full(libc::STDIN_FILENO, buffer)
 }
 
 // the line of a refusal
@@ -49,7 +42,7 @@ fn reduce_fitting(
     columns: usize,
     words: &mut [u64],
     room: &mut [u64],
-) -> Reduced
+) -> EntryReduced
     requires { ⌜ Shows rows columns (find i (meaning bothKinds (now bytes))) × (length (now words) ≡ bodyWords rows columns) × (tableRows * wordsOf columns ≤ length (now room)) ⌝ }
     ensures { λ r. ⌜ reducedWhole (find i (meaning bothKinds (now (bytes .entry)))) (now (room .entry)) r (now (words .exit)) (now (room .exit)) ⌝ }
 {
@@ -57,7 +50,7 @@ fn reduce_fitting(
     let a = matrix::reduce(words, rows, columns, K, room);
     let rank = a.rank;
     let additions = a.additions;
-    Reduced::Entry {
+    EntryReduced::Entry {
         rows: rows,
         columns: columns,
         rank: rank,
@@ -66,12 +59,12 @@ fn reduce_fitting(
 }
 
 // entry i, unpacked into the words lent and reduced there
-pub fn reduce_entry(bytes: &[u8], i: usize, words: &mut [u64], room: &mut [u64]) -> Reduced
+pub fn reduce_entry(bytes: &[u8], i: usize, words: &mut [u64], room: &mut [u64]) -> EntryReduced
     ensures { λ r. ⌜ reducedEntry i (now (bytes .entry)) (now (words .entry)) (now (room .entry)) r (now (words .exit)) (now (room .exit)) ⌝ }
 {
     let t = bundle::entry(bytes, i);
     match t {
-        Told::Refused(r) => Reduced::Refused(r),
+        Told::Refused(r) => EntryReduced::Refused(r),
         Told::Entry {
             kind,
             rows,
@@ -82,11 +75,11 @@ pub fn reduce_entry(bytes: &[u8], i: usize, words: &mut [u64], room: &mut [u64])
             let w = refusals::words(c);
             let n = r * w;
             if words.len() < n {
-                return Reduced::Unfit;
+                return EntryReduced::Unfit;
             }
             // a table of windows of K columns has 16 rows
             if room.len() < 16 * w {
-                return Reduced::Unfit;
+                return EntryReduced::Unfit;
             }
             reduce_fitting(bytes, i, r, c, &mut words[..n], room)
         }

@@ -41,20 +41,13 @@ made-more P from i o p v l h e F = record { done = λ j a b. done j a b (ℕ-dis
 bit-or : (y a b : ℕ) → bit y (bitOr a b) ≡ bitOr (bit y a) (bit y b)
 bit-or y a b = ap (λ (x : ℕ). x % 2) (or-shr a b y) ∙ or-mod (a / 2 ^ y) (b / 2 ^ y) 1
 
-or-left : (y a b : ℕ) → bit y (bitOr a b) ≡ 0 → bit y a ≡ 0
-or-left y a b e = go (bit-cases y a) (bit-cases y b)
+pub none-of : (y a b : ℕ) → bit y (bitOr a b) ≡ 0 → (bit y a ≡ 0) × (bit y b ≡ 0)
+none-of y a b e = go (bit-cases y a) (bit-cases y b)
   where
-    go : (bit y a ≡ 0) ⊎ (bit y a ≡ 1) → (bit y b ≡ 0) ⊎ (bit y b ≡ 1) → bit y a ≡ 0
-    go (inl f) d = f
-    go (inr f) (inl g) = absurd (omega (arith, sym e ∙ bit-or y a b ∙ ap₂ bitOr f g))
-    go (inr f) (inr g) = absurd (omega (arith, sym e ∙ bit-or y a b ∙ ap₂ bitOr f g))
-
-or-right : (y a b : ℕ) → bit y (bitOr a b) ≡ 0 → bit y b ≡ 0
-or-right y a b e = go (bit-cases y a) (bit-cases y b)
-  where
-    go : (bit y a ≡ 0) ⊎ (bit y a ≡ 1) → (bit y b ≡ 0) ⊎ (bit y b ≡ 1) → bit y b ≡ 0
-    go d (inl f) = f
+    go : (bit y a ≡ 0) ⊎ (bit y a ≡ 1) → (bit y b ≡ 0) ⊎ (bit y b ≡ 1) → (bit y a ≡ 0) × (bit y b ≡ 0)
+    go (inl f) (inl g) = (f, g)
     go (inl f) (inr g) = absurd (omega (arith, sym e ∙ bit-or y a b ∙ ap₂ bitOr f g))
+    go (inr f) (inl g) = absurd (omega (arith, sym e ∙ bit-or y a b ∙ ap₂ bitOr f g))
     go (inr f) (inr g) = absurd (omega (arith, sym e ∙ bit-or y a b ∙ ap₂ bitOr f g))
 
 pub union-start : (from : ℕ) (o : List ℕ) → Union from from o 0
@@ -65,8 +58,8 @@ pub union-more : (i from : ℕ) (o : List ℕ) (u b : ℕ) → i < length o → 
 union-more i from o u b h U j y l k e = go (ℕ-discrete j i)
   where
     go : Dec (j ≡ i) → bit y (getD (set o i b) j 0) ≡ 0
-    go (yes f) = rw (f, getD-set-same o i b 0 h) (or-right y u b e)
-    go (no n) = rw (getD-set-other o i j b 0 n) (U j y l (omega arith) (or-left y u b e))
+    go (yes f) = rw (f, getD-set-same o i b 0 h) (none-of y u b e .1)
+    go (no n) = rw (getD-set-other o i j b 0 n) (U j y l (omega arith) (none-of y u b e .0))
 
 -- ---- finding: a row without a one in column x is passed
 

@@ -1,3 +1,4 @@
+pub mod Applying
 pub mod ByteLaws
 pub mod Clears
 pub mod Codebook
@@ -6,5 +7,6 @@ pub mod NumberLaws
 pub mod Once
 pub mod Steps
 pub mod Sums
+pub mod Tails
 pub mod Widths
 pub mod Windows

@@ -1,37 +1,25 @@
 -- Bytes read row by row, and the numbers that name each row's table row.
-use mathlib.Core.Path.{_≡_, refl, sym, ap, ap₂, _∙_}
+use mathlib.Core.Path.{_≡_, refl, ap, _∙_}
 use mathlib.Core.List.{List}
 use mathlib.Core.Logic.{_⊎_, inl, inr}
-use Prim.Native.Nat.{ℕ, _+_, _-_, _/_, _%_, _^_, _<_, _≤_}
+use Prim.Native.Nat.{ℕ, _+_, _-_, _^_, _<_, _≤_}
 use native.Mathlib.Decide.{decLt, ℕ-discrete}
 use native.Mathlib.Omega.{arith}
-use lib.Bits.{bitOr, or-shr, or-mod}
+use lib.Bits.{bitOr}
 use lib.ListN.{length, getD, set}
 use lib.Pow.{pow-mono, pow-pos}
 use lib.Seq.{getD-set-same, getD-set-other}
 use Rattle.gf2.specs.Rows.{bit, row}
-use Rattle.gf2.proofs.Bits.{bit-cases}
 use Rattle.words.specs.Words.{windowBits}
 use Rattle.method.proofs.WindowBits.{bit-window, window-lt}
 use Rattle.engine.specs.Stage.{Union, Marks, Gathered, Numbers}
+use Rattle.engine.proofs.ByteLaws.{none-of}
 
 -- a window's bits fit a byte
 pub byte-lt : (c k v : ℕ) → k ≤ 8 → windowBits c k v < 256
 byte-lt c k v h = omega (arith, window-lt c k v, pow-mono {i = k} {j = 8} h)
 
 -- ---- reading
-
-bit-or : (y a b : ℕ) → bit y (bitOr a b) ≡ bitOr (bit y a) (bit y b)
-bit-or y a b = ap (λ (x : ℕ). x % 2) (or-shr a b y) ∙ or-mod (a / 2 ^ y) (b / 2 ^ y) 1
-
-none-of : (y a b : ℕ) → bit y (bitOr a b) ≡ 0 → (bit y a ≡ 0) × (bit y b ≡ 0)
-none-of y a b e = go (bit-cases y a) (bit-cases y b)
-  where
-    go : (bit y a ≡ 0) ⊎ (bit y a ≡ 1) → (bit y b ≡ 0) ⊎ (bit y b ≡ 1) → (bit y a ≡ 0) × (bit y b ≡ 0)
-    go (inl f) (inl g) = (f, g)
-    go (inl f) (inr g) = absurd (omega (arith, sym e ∙ bit-or y a b ∙ ap₂ bitOr f g))
-    go (inr f) (inl g) = absurd (omega (arith, sym e ∙ bit-or y a b ∙ ap₂ bitOr f g))
-    go (inr f) (inr g) = absurd (omega (arith, sym e ∙ bit-or y a b ∙ ap₂ bitOr f g))
 
 -- places `from` to i - 1 have what f says, those from `to` on what they had, and u is the union of the former
 pub record Reading (f : ℕ → ℕ) (from to i : ℕ) (h₀ h : List ℕ) (u : ℕ) : Type 0 where

@@ -2,14 +2,14 @@
 use mathlib.Core.Path.{_≡_, refl, sym, ap, ap₂, _∙_}
 use mathlib.Core.Bool.{Bool, true, false}
 use mathlib.Core.List.{List}
-use Prim.Native.Nat.{ℕ, _-_}
+use Prim.Native.Nat.{ℕ}
 use native.Mathlib.Omega.{arith}
 use lib.ListN.{length}
 use Rattle.gf2.specs.Reduced.{rank}
 use Rattle.gf2.specs.Additions.{additions}
 use Rattle.gf2.proofs.Reduced.{one-reduced-form}
-use Rattle.words.specs.Words.{wordsOf}
-use Rattle.words.proofs.Slices.{Slice, same-words}
+use Rattle.words.specs.Words.{Slice, wordsOf}
+use Rattle.words.proofs.Slices.{same-words}
 use Rattle.engine.specs.Core.{pivotRecord, Reduction, twoSlices, oneRoom}
 
 -- one reduction

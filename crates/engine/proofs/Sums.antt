@@ -1,40 +1,29 @@
--- The table of all sums of r rows, made step by step in Gray code order by way of a local row, and the clearing by it: once for a table in a slice of its
--- own, and for one in the same room. What a step adds is one row, and what it stores is the sum of its code; a store over an old row stores the same sum.
-use mathlib.Core.Path.{_≡_, refl, sym, ap, ap₂, _∙_}
+-- The table of all sums of r rows, made step by step in Gray code order by way of a local row: once for a table in a slice of its own, and for one in the
+-- same room. What a step adds is one row, and what it stores is the sum of its code; a store over an old row stores the same sum.
+use mathlib.Core.Path.{_≡_, sym, ap, ap₂, _∙_}
 use mathlib.Core.List.{List, [], _∷_}
 use Prim.Native.Nat.{ℕ, zero, suc, _+_, _-_, _*_, _^_, _<_, _≤_}
 use native.Mathlib.Decide.{decLt, ℕ-discrete}
-use native.Mathlib.Nat.{lt-of-lt-of-le, add-zero, add-mul}
+use native.Mathlib.Nat.{lt-of-lt-of-le}
 use native.Mathlib.Omega.{arith}
-use lib.Bits.{xor-zero-r, xor-lt}
+use lib.Bits.{xor-lt}
 use lib.Count.{trailingZeros}
-use lib.ListN.{length, getD, set, take, drop, replicate}
+use lib.ListN.{length, getD, set, replicate, length-replicate, getD-replicate}
 use lib.Pow.{pow-pos, pow-mono}
-use lib.Seq.{paste, ext-getD, getD-set-same, getD-set-other, set-getD, length-paste, drop-drop}
+use lib.Seq.{paste, ext-getD, getD-set-same, getD-set-other, length-paste}
 use Rattle.gf2.specs.Additions.{tableAdditions}
 use Rattle.gf2.specs.Rows.{_⊕_, row, part, combine}
 use Rattle.gf2.proofs.Bits.{bit-above}
 use Rattle.gf2.proofs.Pivot.{trailing-pivot}
-use Rattle.gf2.proofs.Products.{is-tabulate}
-use Rattle.gf2.proofs.Space.{combine-zero, combine-pow}
+use Rattle.gf2.proofs.Space.{combine-zero}
 use Rattle.words.specs.Words.{Fit, value, rowsOf, xors}
 use Rattle.words.proofs.Parts.{length-xors, length-part, getD-part, paste-before, paste-in, paste-after}
-use Rattle.words.proofs.Value.{part-sum, part-fits}
-use Rattle.words.proofs.Rows.{row-ends, getD-rows, length-rows, rows-paste}
+use Rattle.words.proofs.Value.{value-zeros, value-xors, part-fits}
+use Rattle.words.proofs.Rows.{length-rows, rows-paste}
 use Rattle.method.specs.Gray.{gray}
 use Rattle.method.proofs.Gray.{gray-onto, gray-step}
 use Rattle.method.proofs.Table.{table-step}
-use Rattle.method.proofs.Pending.{part-row}
-use Rattle.engine.specs.Stage.{rowAt, putRow, Table, Codes, cleared, tableIn}
-
--- ---- sizes
-
--- the last word of a row
-pub ends : (i n w len : ℕ) → i < n → n * w ≤ len → i * w + w ≤ len
-ends i n w len h l = omega (arith, row-ends i n w h)
-
-pub pow-two : (r : ℕ) → 0 < r → 2 ≤ 2 ^ r
-pow-two r h = pow-mono {i = 1} {j = r} h
+use Rattle.engine.specs.Stage.{Table}
 
 -- ---- steps
 
@@ -52,33 +41,28 @@ joins-below r l hr hl h = go (decLt (trailingZeros 32 l) r)
     go (yes b) = b
     go (no b) = absurd (omega (arith, trailing-pivot 32 l (in32 r l hr hl) (omega arith) .one, bit-above r (trailingZeros 32 l) l hl (omega arith)))
 
--- the first sum is the first row
-pub first-sum : (base r : ℕ) (L : List ℕ) → 0 < r → combine (gray 1) (part base r L) ≡ row L base
-first-sum base r L h = combine-pow 0 (part base r L) ∙ part-row base r L 0 h ∙ ap (row L) (add-zero base)
-
 -- a step adds one row
-pub next-sum : (base r l : ℕ) (L : List ℕ) (v : ℕ) → r ≤ 8 → l < 2 ^ r → 0 < l → v ≡ combine (gray (l - 1)) (part base r L)
-    → v ⊕ row L (base + trailingZeros 32 l) ≡ combine (gray l) (part base r L)
-next-sum base r l L v hr hl h e =
-    let P : List ℕ = part base r L in
+next-sum : (r l : ℕ) (P : List ℕ) (v : ℕ) → r ≤ 8 → l < 2 ^ r → 0 < l → v ≡ combine (gray (l - 1)) P → v ⊕ row P (trailingZeros 32 l) ≡ combine (gray l) P
+next-sum r l P v hr hl h e =
     let z : ℕ = trailingZeros 32 l in
-    ap₂ (λ (x y : ℕ). x ⊕ y) e (sym (part-row base r L z (joins-below r l hr hl h)))
+    ap (λ (x : ℕ). x ⊕ row P z) e
     ∙ sym (table-step P (gray (l - 1)) z) ∙ ap (λ (g : ℕ). combine g P) (sym (gray-step 32 l (in32 r l hr hl) (omega arith)))
 
-pub codes-start : (P : List ℕ) (T : ℕ → ℕ) → T 1 ≡ combine (gray 1) P → Codes 2 P T
-codes-start P T e u a b =
-    let q : u ≡ 1 = omega arith in
-    rw q e
+-- the table rows of the codes of steps 1 to t - 1 are the sums that these codes name
+abbrev pub Codes : ℕ → List ℕ → (ℕ → ℕ) → Type 0
+Codes t P T = (u : ℕ) → 0 < u → u < t → T (gray u) ≡ combine (gray u) P
 
--- the row of step l stored: f says where the table's rows stand
-pub codes-more : (f : ℕ → ℕ) → ((j k : ℕ) → f j ≡ f k → j ≡ k) → (l v : ℕ) (P Y X : List ℕ) → f (gray l) < length Y → X ≡ set Y (f (gray l)) v
-    → v ≡ combine (gray l) P → Codes l P (λ j. row Y (f j)) → Codes (l + 1) P (λ j. row X (f j))
-codes-more f one l v P Y X h e ev C u a b = go (ℕ-discrete (gray u) (gray l))
+-- no code is reached before the first step
+pub codes-start : (P : List ℕ) (T : ℕ → ℕ) → Codes 1 P T
+codes-start P T u a b = absurd (omega arith)
+
+-- the row of step l stored
+codes-more : (l v : ℕ) (P Y X : List ℕ) → gray l < length Y → X ≡ set Y (gray l) v → v ≡ combine (gray l) P → Codes l P (row Y) → Codes (l + 1) P (row X)
+codes-more l v P Y X h e ev C u a b = go (ℕ-discrete (gray u) (gray l))
   where
-    go : Dec (gray u ≡ gray l) → row X (f (gray u)) ≡ combine (gray u) P
-    go (yes q) = ap₂ row e (ap f q) ∙ getD-set-same Y (f (gray l)) v 0 h ∙ ev ∙ ap (λ (g : ℕ). combine g P) (sym q)
-    go (no q) =
-        ap (λ (Z : List ℕ). row Z (f (gray u))) e ∙ getD-set-other Y (f (gray l)) (f (gray u)) v 0 (λ s. q (one (gray u) (gray l) s)) ∙ C u a (before (ℕ-discrete u l))
+    go : Dec (gray u ≡ gray l) → row X (gray u) ≡ combine (gray u) P
+    go (yes q) = ap₂ row e q ∙ getD-set-same Y (gray l) v 0 h ∙ ev ∙ ap (λ (g : ℕ). combine g P) (sym q)
+    go (no q) = ap (λ (Z : List ℕ). row Z (gray u)) e ∙ getD-set-other Y (gray l) (gray u) v 0 q ∙ C u a (before (ℕ-discrete u l))
       where
         before : Dec (u ≡ l) → u < l
         before (yes s) = absurd (q (ap gray s))
@@ -97,33 +81,24 @@ codes-done r P T C j h l =
         go (yes z) = absurd (omega (arith, sym (ap gray z) ∙ e))
         go (no z) = omega arith
 
-pub additions-done : (r l a : ℕ) → l ≡ 2 ^ r → a ≡ l - 1 → a ≡ tableAdditions r
+pub additions-done : (r l : ℕ) → l ≡ 2 ^ r → l - 1 ≡ tableAdditions r
 unfolding tableAdditions
-additions-done r l a e h = omega arith
+additions-done r l e = omega arith
 
 -- ---- by way of a local row
 
--- a row just put there
-pub row-put : (i w : ℕ) (m x : List ℕ) → i * w + w ≤ length m → length x ≡ w → rowAt i w (putRow m i w x) ≡ x
-row-put i w m x h e =
-    let p : List ℕ = putRow m i w x in
-    let lp : length p ≡ length m = length-paste m (i * w) x w h (omega arith) in
-    let la : length (rowAt i w p) ≡ w = length-part (i * w) w p (omega arith) in
-    ext-getD 0 (rowAt i w p) x (la ∙ sym e)
-    (λ j l. let hj : j < w = omega arith in getD-part (i * w) w p j hj ∙ paste-in m (i * w) x w h (omega arith) j hj)
+-- words just put there
+part-put : (m : List ℕ) (a v : ℕ) (y : List ℕ) → a + v ≤ length m → length y ≡ v → part a v (paste m a y v) ≡ y
+part-put m a v y h e =
+    let p : List ℕ = paste m a y v in
+    let lp : length p ≡ length m = length-paste m a y v h (omega arith) in
+    let la : length (part a v p) ≡ v = length-part a v p (omega arith) in
+    ext-getD 0 (part a v p) y (la ∙ sym e)
+    (λ j l. let hj : j < v = omega arith in getD-part a v p j hj ∙ paste-in m a y v h (omega arith) j hj)
 
--- a row copied to the local row and on
-pub by-local : (j w : ℕ) (s x x′ : List ℕ) → w ≤ length x → j * w + w ≤ length s → x′ ≡ putRow x 0 w (rowAt j w s) → rowAt 0 w x′ ≡ rowAt j w s
-by-local j w s x x′ hx hs e = ap (rowAt 0 w) e ∙ row-put 0 w x (rowAt j w s) (omega arith) (length-part (j * w) w s hs)
-
--- a row added to the local row
-pub local-sum : (w n i : ℕ) (x x′ m : List ℕ) → i < n → w ≤ length x → Fit x → Fit m → x′ ≡ putRow x 0 w (xors (rowAt 0 w x) (rowAt i w m))
-    → value (rowAt 0 w x′) ≡ value (rowAt 0 w x) ⊕ row (rowsOf w n m) i
-local-sum w n i x x′ m hi hx fx fm e =
-    let l : 0 * w + w ≤ length x = omega arith in
-    ap (λ (y : List ℕ). value (rowAt 0 w y)) e
-    ∙ ap value (row-put 0 w x (xors (rowAt 0 w x) (rowAt i w m)) l (length-xors (rowAt 0 w x) (rowAt i w m) ∙ length-part (0 * w) w x l))
-    ∙ part-sum x m (0 * w) (i * w) w l fx fm ∙ ap (λ (v : ℕ). value (rowAt 0 w x) ⊕ v) (sym (getD-rows w n m i hi))
+-- words copied to the local row and on
+pub by-local : (b v : ℕ) (s x x′ : List ℕ) → v ≤ length x → b + v ≤ length s → x′ ≡ paste x 0 (part b v s) v → part 0 v x′ ≡ part b v s
+by-local b v s x x′ hx hs e = ap (part 0 v) e ∙ part-put x 0 v (part b v s) (omega arith) (length-part b v s hs)
 
 -- the local row's words fit
 fit-xors : (x y : List ℕ) → Fit x → Fit y → Fit (xors x y)
@@ -142,92 +117,49 @@ fit-paste m a x j hm hx fm fx i = go (decLt i a) (decLt i (a + j))
         rw e (rw (paste-in m a x j hm hx (i - a) (omega arith)) (fx (i - a)))
     go (no l) (no b) = rw (paste-after m a x j hm hx i (omega arith)) (fm i)
 
-pub fit-local : (w : ℕ) (x x′ s : List ℕ) (j : ℕ) → w ≤ length x → j * w + w ≤ length s → Fit x → Fit s → x′ ≡ putRow x 0 w (rowAt j w s) → Fit x′
-fit-local w x x′ s j hx hs fx fs e =
-    let l : w ≤ length (rowAt j w s) = omega (arith, length-part (j * w) w s hs) in
-    rw e (fit-paste x (0 * w) (rowAt j w s) w (omega arith) l fx (part-fits s (j * w) w fs))
-
-pub fit-sum : (w i : ℕ) (x x′ m : List ℕ) → w ≤ length x → Fit x → Fit m → x′ ≡ putRow x 0 w (xors (rowAt 0 w x) (rowAt i w m)) → Fit x′
-fit-sum w i x x′ m hx fx fm e =
-    let y : List ℕ = xors (rowAt 0 w x) (rowAt i w m) in
-    let lp : length (rowAt 0 w x) ≡ w = length-part (0 * w) w x (omega arith) in
-    let l : w ≤ length y = omega (arith, length-xors (rowAt 0 w x) (rowAt i w m)) in
-    rw e (fit-paste x (0 * w) y w (omega arith) l fx (fit-xors (rowAt 0 w x) (rowAt i w m) (part-fits x (0 * w) w fx) (part-fits m (i * w) w fm)))
-
 fit-zeros : (n : ℕ) → Fit (replicate n 0)
 fit-zeros zero i = pow-pos 64
 fit-zeros (suc n) zero = pow-pos 64
 fit-zeros (suc n) (suc i) = fit-zeros n i
 
 -- before step l the local row has the sum of the step before
-pub record Local (w l : ℕ) (P x : List ℕ) : Type 0 where
-  pub sum : value (rowAt 0 w x) ≡ combine (gray (l - 1)) P
+pub record Local (v l : ℕ) (P x : List ℕ) : Type 0 where
+  pub sum : value (part 0 v x) ≡ combine (gray (l - 1)) P
   pub long : length x ≡ 16
   pub fit : Fit x
 
--- row 1 of the table is row j of t
-pub local-start : (w n base r j : ℕ) (m t x : List ℕ) → base < n → 0 < r → w ≤ 16 → j * w + w ≤ length t → Fit t → rowAt j w t ≡ rowAt base w m
-    → x ≡ putRow (replicate 16 0) 0 w (rowAt j w t) → length x ≡ 16 → Local w 2 (part base r (rowsOf w n m)) x
-local-start w n base r j m t x hb hr hw ht ft same e lx = record {
-  sum = ap value (by-local j w t (replicate 16 0) x hw ht e ∙ same) ∙ sym (getD-rows w n m base hb) ∙ sym (first-sum base r (rowsOf w n m) hr);
-  long = lx;
-  fit = fit-local w (replicate 16 0) x t j hw ht (fit-zeros 16) ft e;
-}
+-- no row yet
+pub local-start : (v : ℕ) (P : List ℕ) → v ≤ 16 → Local v 1 P (replicate 16 0)
+local-start v P h =
+    let x : List ℕ = replicate 16 0 in
+    let lx : length (part 0 v x) ≡ v = length-part 0 v x (omega arith) in
+    let none : part 0 v x ≡ replicate v 0 =
+    ext-getD 0 (part 0 v x) (replicate v 0) (lx ∙ sym (length-replicate {A = ℕ} v 0))
+    (λ j l. let hj : j < v = omega arith in
+    getD-part 0 v x j hj ∙ getD-replicate {A = ℕ} 16 (0 + j) 0 0 (omega arith) ∙ sym (getD-replicate {A = ℕ} v j 0 0 hj)) in
+    record { sum = ap value none ∙ value-zeros v ∙ sym (combine-zero P); long = length-replicate {A = ℕ} 16 0; fit = fit-zeros 16 }
 
-pub local-more : (w n base r l : ℕ) (L m x x′ : List ℕ) → rowsOf w n m ≡ L → base + r ≤ n → r ≤ 8 → 1 < l → l < 2 ^ r → w ≤ 16 → Fit m
-    → x′ ≡ putRow x 0 w (xors (rowAt 0 w x) (rowAt (base + trailingZeros 32 l) w m)) → length x′ ≡ 16 → Local w l (part base r L) x → Local w (l + 1) (part base r L) x′
-local-more w n base r l L m x x′ el hb hr h hl hw fm e lx s =
-    let z : ℕ = trailingZeros 32 l in
-    let hz : base + z < n = omega (arith, joins-below r l hr hl (omega arith)) in
-    let wide : w ≤ length x = omega (arith, s .long) in
+-- the words y of the row that joins are added
+pub local-more : (v r l : ℕ) (P y x x′ : List ℕ) → r ≤ 8 → 0 < l → l < 2 ^ r → v ≤ 16 → length y ≡ v → Fit y → value y ≡ row P (trailingZeros 32 l)
+    → x′ ≡ paste x 0 (xors (part 0 v x) y) v → length x′ ≡ 16 → Local v l P x → Local v (l + 1) P x′
+local-more v r l P y x x′ hr h hl hv ly fy joined e lx s =
+    let X : List ℕ = xors (part 0 v x) y in
+    let wide : 0 + v ≤ length x = omega (arith, s .long) in
+    let lp : length (part 0 v x) ≡ v = length-part 0 v x wide in
+    let lX : length X ≡ v = length-xors (part 0 v x) y ∙ lp in
     let q : l + 1 - 1 ≡ l = omega arith in
-    let made : value (rowAt 0 w x′) ≡ combine (gray l) (part base r L) =
-    local-sum w n (base + z) x x′ m hz wide (s .fit) fm e ∙ ap (λ (A : List ℕ). value (rowAt 0 w x) ⊕ row A (base + z)) el
-    ∙ next-sum base r l L (value (rowAt 0 w x)) hr hl (omega arith) (s .sum) in
-    record { sum = rw q made; long = lx; fit = fit-sum w (base + z) x x′ m wide (s .fit) fm e }
+    let made : value (part 0 v x′) ≡ combine (gray l) P =
+    ap (λ (k : List ℕ). value (part 0 v k)) e ∙ ap value (part-put x 0 v X wide lX)
+    ∙ value-xors (part 0 v x) y (part-fits x 0 v (s .fit)) fy (omega arith)
+    ∙ ap (λ (k : ℕ). value (part 0 v x) ⊕ k) joined
+    ∙ next-sum r l P (value (part 0 v x)) hr hl h (s .sum) in
+    record { sum = rw q made; long = lx; fit = rw e (fit-paste x 0 X v wide (omega arith) (s .fit) (fit-xors (part 0 v x) y (part-fits x 0 v (s .fit)) fy)) }
 
 -- the local row stored in the table's row of step l
-pub codes-turn : (f : ℕ → ℕ) → ((j k : ℕ) → f j ≡ f k → j ≡ k) → (w N l : ℕ) (P t t′ x : List ℕ) → f (gray l) < N → N * w ≤ length t → w ≤ 16
-    → t′ ≡ putRow t (f (gray l)) w (rowAt 0 w x) → Local w (l + 1) P x → Codes l P (λ j. row (rowsOf w N t) (f j)) → Codes (l + 1) P (λ j. row (rowsOf w N t′) (f j))
-codes-turn f one w N l P t t′ x h ht hw e s C =
+pub codes-turn : (v N l : ℕ) (P t t′ x : List ℕ) → gray l < N → N * v ≤ length t → v ≤ 16 → t′ ≡ paste t (gray l * v) (part 0 v x) v → Local v (l + 1) P x
+    → Codes l P (row (rowsOf v N t)) → Codes (l + 1) P (row (rowsOf v N t′))
+codes-turn v N l P t t′ x h ht hv e s C =
     let q : l + 1 - 1 ≡ l = omega arith in
-    codes-more f one l (value (rowAt 0 w x)) P (rowsOf w N t) (rowsOf w N t′) (rw (length-rows w N t) h)
-    (ap (rowsOf w N) e ∙ rows-paste w N (f (gray l)) t (rowAt 0 w x) h ht (length-part (0 * w) w x (omega (arith, s .long))))
+    codes-more l (value (part 0 v x)) P (rowsOf v N t) (rowsOf v N t′) (rw (length-rows v N t) h)
+    (ap (rowsOf v N) e ∙ rows-paste v N (gray l) t (part 0 v x) h ht (length-part 0 v x (omega (arith, s .long))))
     (s .sum ∙ ap (λ (k : ℕ). combine (gray k) P) q) C
-
--- ---- clearing
-
--- the first i rows of L have been cleared
-pub record Clearing (i : ℕ) (o P L N : List ℕ) : Type 0 where
-  pub done : (k : ℕ) → k < i → row N k ≡ row L k ⊕ combine (getD o k 0) P
-  pub rest : (k : ℕ) → i ≤ k → row N k ≡ row L k
-
-pub clearing-start : (o P L : List ℕ) → Clearing 0 o P L L
-clearing-start o P L = record { done = λ k h. absurd (omega arith); rest = λ k h. refl }
-
-pub clearing-more : (i : ℕ) (o P L N K : List ℕ) → i < length N → Clearing i o P L N → K ≡ set N i (row N i ⊕ combine (getD o i 0) P) → Clearing (i + 1) o P L K
-clearing-more i o P L N K h C e = record {
-  done = λ k l. done k l (ℕ-discrete k i);
-  rest = λ k l. ap (λ (X : List ℕ). row X k) e ∙ getD-set-other N i k (row N i ⊕ combine (getD o i 0) P) 0 (omega arith) ∙ C .rest k (omega arith);
-}
-  where
-    done : (k : ℕ) → k < i + 1 → Dec (k ≡ i) → row K k ≡ row L k ⊕ combine (getD o k 0) P
-    done k l (yes q) =
-        rw q (ap (λ (X : List ℕ). row X i) e ∙ getD-set-same N i (row N i ⊕ combine (getD o i 0) P) 0 h
-        ∙ ap (λ (v : ℕ). v ⊕ combine (getD o i 0) P) (C .rest i (omega arith)))
-    done k l (no q) = ap (λ (X : List ℕ). row X k) e ∙ getD-set-other N i k (row N i ⊕ combine (getD o i 0) P) 0 q ∙ C .done k (omega arith)
-
--- number 0 names no row
-pub clear-nothing : (i : ℕ) (o P N : List ℕ) → getD o i 0 ≡ 0 → N ≡ set N i (row N i ⊕ combine (getD o i 0) P)
-clear-nothing i o P N z = rw (z, combine-zero P, xor-zero-r (row N i), set-getD N i 0)
-
-pub clearing-done : (o P L N : List ℕ) → length N ≡ length L → Clearing (length L) o P L N → N ≡ cleared o P L
-unfolding cleared
-clearing-done o P L N e C = is-tabulate N (length L) (λ i. row L i ⊕ combine (getD o i 0) P) e (C .done)
-
--- a table behind the n rows, as long as nothing there changes
-pub table-same : (w n r j : ℕ) (m m₀ : List ℕ) → j < 2 ^ r → drop (n * w) m ≡ drop (n * w) m₀ → tableIn w n r m j ≡ tableIn w n r m₀ j
-table-same w n r j m m₀ h e =
-    let l : n + j < n + 2 ^ r = omega arith in
-    let d : (x : List ℕ) → drop ((n + j) * w) x ≡ drop (j * w) (drop (n * w) x) = λ x. ap (λ (k : ℕ). drop k x) (add-mul n j w) ∙ sym (drop-drop (j * w) (n * w) x) in
-    getD-rows w (n + 2 ^ r) m (n + j) l ∙ ap (λ (x : List ℕ). value (take w x)) (d m ∙ ap (drop (j * w)) e ∙ sym (d m₀)) ∙ sym (getD-rows w (n + 2 ^ r) m₀ (n + j) l)

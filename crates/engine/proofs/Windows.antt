@@ -1,8 +1,8 @@
 -- A window: once its rows are cleared the matrix is what the search foresaw. All windows: after the last the matrix is reduced, and the pivots and additions are its own.
 use mathlib.Core.Path.{_≡_, refl, sym, ap, ap₂, _∙_, subst}
-use mathlib.Core.Logic.{_≢_, _⊎_, inl, inr}
+use mathlib.Core.Logic.{_⊎_, inl, inr}
 use mathlib.Core.List.{List, _++_}
-use Prim.Native.Nat.{ℕ, zero, suc, _+_, _-_, _*_, _^_, _<_, _≤_}
+use Prim.Native.Nat.{ℕ, zero, suc, _+_, _-_, _*_, _/_, _%_, _^_, _<_, _≤_}
 use native.Mathlib.Decide.{decLt}
 use native.Mathlib.Nat.{suc-mul, lt-of-lt-of-le, le-trans, mul-le-mul-right, mul-suc, zero-mul}
 use native.Mathlib.Numerals.{add-one}
@@ -10,13 +10,13 @@ use native.Mathlib.Omega.{arith}
 use lib.Bits.{xor-zero-r}
 use lib.ListN.{length, getD, take, drop, replicate, length-drop, length-replicate, getD-replicate, take-append-drop}
 use lib.Pow.{pow-mono}
-use lib.Seq.{length-paste, ext-getD, take-add, getD-take, getD-drop, length-take-le, drop-drop}
+use lib.Seq.{ext-getD, take-add, getD-take, getD-drop, length-take-le, drop-drop}
 use Rattle.gf2.specs.Rows.{bit, _⊕_, row, part, combine, RowSpace, SameRowSpace}
 use Rattle.gf2.specs.Reduced.{pivots}
 use Rattle.gf2.specs.Additions.{windows, totalTo, tableAdditions}
 use Rattle.gf2.proofs.Bits.{eq-of-xor}
 use Rattle.gf2.proofs.Space.{combine-zero, space-ind, same-refl, same-trans, same-narrow}
-use Rattle.gf2.proofs.Pivot.{pivot-unique, pivot-narrow}
+use Rattle.gf2.proofs.Pivot.{pivot-unique, pivot-narrow, cut-zero}
 use Rattle.gf2.proofs.Pivots.{pivots-are}
 use Rattle.gf2.proofs.Products.{tabulate-row, tabulate-length}
 use Rattle.gf2.proofs.Additions.{windows-end}
@@ -25,20 +25,15 @@ use Rattle.method.proofs.Upto.{upto-start, upto-past, upto-done, upto-zero}
 use Rattle.method.proofs.Pending.{pending-clear, pending-same}
 use Rattle.method.proofs.Counting.{total-more}
 use Rattle.engine.specs.Core.{Reduction}
+use Rattle.engine.proofs.Steps.{left-of}
 use Rattle.words.specs.Words.{rowsOf}
-use Rattle.words.proofs.Parts.{length-part, part-same, paste-before, drop-past}
-use Rattle.words.proofs.Rows.{row-ends, rows-past}
-use Rattle.engine.proofs.Sums.{row-put}
-use Rattle.engine.specs.Stage.{Sizes, rowAt, putRow, Applies, AppliesIn, Stage, Search, Marks, Numbers, cleared, Windowed, Passed}
+use Rattle.engine.specs.Stage.{Sizes, Applies, AppliesIn, Stage, Search, Marks, Numbers, cleared, Windowed}
 
 -- ---- one window
 
 module _ (n c k base r : ℕ) (M h o cols : List ℕ) (S : Search n c k k base r M h o cols) where
-  recorded : (i : ℕ) → i < base + r → getD cols i 0 < c + k
-  recorded i l = let u = S .pending .upto .used i l in omega (arith, u .1, pivot-unique (getD cols i 0) (u .0) (row (S .F) i) (S .pivots i l) (u .2))
-
   pub marks : Marks c k base r cols
-  marks = record { low = λ b l. S .here (base + b) (omega arith) (omega arith); high = λ b l. recorded (base + b) (omega arith); full = S .full }
+  marks = record { low = λ b l. S .here (base + b) (omega arith) (omega arith); high = λ b l. left-of n c k k base r M h o cols S (base + b) (omega arith); full = S .full }
 
   -- no pivot: nothing is to be cleared
   pub no-pivots : length M ≡ n → r ≡ 0 → M ≡ S .F
@@ -90,6 +85,12 @@ module _ (n c k base r : ℕ) (M h o cols : List ℕ) (S : Search n c k k base r
 -- a recorded pivot stands left of where the reduction is
 stage-left : (n c r : ℕ) (M cols : List ℕ) → Stage n c r M cols → (i : ℕ) → i < r → getD cols i 0 < c
 stage-left n c r M cols t i h = let u = t .upto .used i h in omega (arith, u .1, pivot-unique (getD cols i 0) (u .0) (row M i) (t .pivots i h) (u .2))
+
+-- after j windows: columns below j * k are done, r pivots found, and their additions counted
+pub record Passed (n columns k j r added : ℕ) (L N cols : List ℕ) : Type 0 where
+  pub stage : Stage n (j * k) r N cols
+  pub space : SameRowSpace L N
+  pub counted : added ≡ totalTo tableAdditions k columns (take r cols) j
 
 pub passed-start : (n columns k : ℕ) (L cols : List ℕ) → n ≤ length cols → ((i : ℕ) → i < length cols → getD cols i 0 ≡ 65535) → Passed n columns k 0 0 0 L L cols
 unfolding totalTo
@@ -225,41 +226,29 @@ pub no-additions : 0 ≡ tableAdditions 0
 unfolding tableAdditions
 no-additions = refl
 
--- ---- the table's first row is there, and it stands in the room for the table
+-- ---- what clearing by the table needs once a window's search has found r pivots, and what it leaves past the room for the table
 
-pub window-first : (w base : ℕ) (t m t′ : List ℕ) → 2 ^ 1 * w ≤ length t → base * w + w ≤ length m → t′ ≡ putRow t 1 w (rowAt base w m) → rowAt 1 w t′ ≡ rowAt base w m
-window-first w base t m t′ ht hm e = ap (rowAt 1 w) e ∙ row-put 1 w t (rowAt base w m) (omega arith) (length-part (base * w) w m hm)
+-- the pivot rows are zero in the words before the window's first
+words-before : (w n c k base r : ℕ) (M h o cols : List ℕ) → c + k ≤ w * 64 → Search n c k k base r M h o cols → (i : ℕ) → base ≤ i → i < base + r → row M i % 2 ^ (64 * (w - (w - c / 64))) ≡ 0
+words-before w n c k base r M h o cols hc S i a b =
+    cut-zero (64 * (w - (w - c / 64))) (getD cols i 0) (row M i) (omega (arith, S .here i a b)) (rw (S .pending .mine i a b) at (S .pivots i b))
 
-pub first-past : (w k base : ℕ) (t m t′ : List ℕ) → 2 ^ 1 * w ≤ 2 ^ k * w → 2 ^ k * w ≤ length t → base * w + w ≤ length m → t′ ≡ putRow t 1 w (rowAt base w m) → drop (2 ^ k * w) t′ ≡ drop (2 ^ k * w) t
-first-past w k base t m t′ h ht hm e =
-    ap (drop (2 ^ k * w)) e ∙ drop-past t (1 * w) (rowAt base w m) w (2 ^ k * w) (omega arith) (omega arith) (omega (arith, length-part (base * w) w m hm))
-
--- what clearing by the table needs once a window's search has found r pivots, and what it leaves past the room for the table
-module _ (w n c k base r : ℕ) (m m₁ t t₁ h o cols : List ℕ) (z : Sizes w n (length m)) (lm : length m₁ ≡ length m) (hk : k ≤ 8) (ht : 2 ^ k * w ≤ length t) (S : Search n c k k base r (rowsOf w n m₁) h o cols) (hr : r ≢ 0)
-    (e : t₁ ≡ putRow t 1 w (rowAt base w m₁)) where
-  some-pivot : 0 < r
-  some-pivot = omega arith
-
-  base-fits : base * w + w ≤ length m₁
-  base-fits = omega (arith, z .fits, lm, row-ends base n w (omega (arith, S .room, some-pivot)))
-
-  two-rows : 2 ^ 1 * w ≤ 2 ^ k * w
-  two-rows = table-room 1 k w (omega (arith, S .few, some-pivot))
-
-  pub window-applies : (h₁ : List ℕ) → length t₁ ≡ length t → length h₁ ≡ length h → ((i : ℕ) → i < n → getD h₁ i 0 < 2 ^ r) → Applies w n base r m₁ t₁ h₁
-  window-applies h₁ lt lh small = record {
+module _ (w n c k base r : ℕ) (m m₁ t h o cols : List ℕ) (z : Sizes w n (length m)) (lm : length m₁ ≡ length m) (hc : c + k ≤ w * 64) (hk : k ≤ 8) (ht : 2 ^ k * w ≤ length t)
+    (S : Search n c k k base r (rowsOf w n m₁) h o cols) where
+  pub window-applies : (h₁ : List ℕ) → length h₁ ≡ length h → ((i : ℕ) → i < n → getD h₁ i 0 < 2 ^ r) → Applies w (w - c / 64) n base r m₁ t h₁
+  window-applies h₁ lh small = record {
     sizes = record { fits = omega (arith, z .fits, lm); narrow = z .narrow; few = z .few };
+    inside = omega arith;
     rows = S .room;
-    some = some-pivot;
     most = omega (arith, S .few, hk);
-    table = omega (arith, lt, ht, table-room r k w (S .few));
+    table = omega (arith, ht, table-room r k w (S .few));
     bytes = omega (arith, lh, S .long-h);
     small = small;
-    first = window-first w base t m₁ t₁ (omega (arith, ht, two-rows)) base-fits e;
+    low = words-before w n c k base r (rowsOf w n m₁) h o cols hc S;
   }
 
-  pub window-rest : (t₂ : List ℕ) → drop (2 ^ r * w) t₂ ≡ drop (2 ^ r * w) t₁ → drop (2 ^ k * w) t₂ ≡ drop (2 ^ k * w) t
-  window-rest t₂ rest = drop-more (2 ^ r * w) (2 ^ k * w) t₂ t₁ (table-room r k w (S .few)) rest ∙ first-past w k base t m₁ t₁ two-rows ht base-fits e
+  pub window-rest : (t₂ : List ℕ) → drop (2 ^ r * w) t₂ ≡ drop (2 ^ r * w) t → drop (2 ^ k * w) t₂ ≡ drop (2 ^ k * w) t
+  window-rest t₂ = drop-more (2 ^ r * w) (2 ^ k * w) t₂ t (table-room r k w (S .few))
 
 -- ---- matrix and table in one room: n rows, and a or b behind them
 
@@ -272,76 +261,31 @@ room-rows w n b len l = le-trans (mul-le-mul-right w (omega arith)) l
 pub room-drop : (w n b : ℕ) (x y : List ℕ) → drop (n * w) x ≡ drop (n * w) y → drop ((n + b) * w) x ≡ drop ((n + b) * w) y
 room-drop w n b x y = drop-more (n * w) ((n + b) * w) x y (mul-le-mul-right w (omega arith))
 
-module _ (w n base : ℕ) (m m′ : List ℕ) (h : base < n) (l : (n + 2) * w ≤ length m) (e : m′ ≡ putRow m (n + 1) w (rowAt base w m)) where
-  last-row : (n + 1) * w + w ≤ length m
-  last-row = omega (arith, row-ends (n + 1) (n + 2) w (omega arith))
-
-  base-row : base * w + w ≤ length m
-  base-row = omega (arith, row-ends base (n + 2) w (omega arith))
-
-  lx : length (rowAt base w m) ≡ w
-  lx = length-part (base * w) w m base-row
-
-  apart-rows : base * w + w ≤ (n + 1) * w
-  apart-rows = row-ends base (n + 1) w (omega arith)
-
-  -- the first table row is the first pivot row, and the matrix is as it was
-  pub room-first : (rowAt (n + 1) w m′ ≡ rowAt base w m′) × (rowsOf w n m′ ≡ rowsOf w n m)
-  room-first = (
-    ap (rowAt (n + 1) w) e ∙ row-put (n + 1) w m (rowAt base w m) last-row lx
-        ∙ sym (ap (rowAt base w) e ∙ part-same (putRow m (n + 1) w (rowAt base w m)) m (base * w) w
-        (omega (arith, base-row, length-paste m ((n + 1) * w) (rowAt base w m) w last-row (omega (arith, lx)))) base-row
-        (λ j hj. paste-before m ((n + 1) * w) (rowAt base w m) w last-row (omega (arith, lx)) (base * w + j) (omega (arith, apart-rows)))),
-    ap (rowsOf w n) e ∙ rows-past w n m ((n + 1) * w) (rowAt base w m) w (mul-le-mul-right w (omega arith)) last-row,
-  )
-
-pub room-first-past : (w n b base : ℕ) (m m′ : List ℕ) → base < n → 2 ≤ b → (n + 2) * w ≤ length m → m′ ≡ putRow m (n + 1) w (rowAt base w m) → drop ((n + b) * w) m′ ≡ drop ((n + b) * w) m
-room-first-past w n b base m m′ h k l e =
-    ap (drop ((n + b) * w)) e
-    ∙ drop-past m ((n + 1) * w) (rowAt base w m) w ((n + b) * w) (row-ends (n + 1) (n + b) w (omega arith)) (omega (arith, row-ends (n + 1) (n + 2) w (omega arith)))
-    (omega (arith, length-part (base * w) w m (omega (arith, row-ends base (n + 2) w (omega arith)))))
-
 -- a table takes at most 255 additions
 pub table-small : (r : ℕ) → r ≤ 8 → tableAdditions r ≤ 255
 unfolding tableAdditions
 table-small r h = omega (arith, pow-small r h)
 
 -- the same of a window as over two slices
-module _ (w n c k base r : ℕ) (m m₁ h o cols : List ℕ) (z : Sizes w (n + 2 ^ k) (length m)) (lm : length m₁ ≡ length m) (hk : k ≤ 8) (S : Search n c k k base r (rowsOf w n m₁) h o cols) (hr : r ≢ 0) where
-  base-below : base < n
-  base-below = omega (arith, S .room)
+module _ (w n c k base r : ℕ) (m m₁ h o cols : List ℕ) (z : Sizes w (n + 2 ^ k) (length m)) (lm : length m₁ ≡ length m) (hc : c + k ≤ w * 64) (hk : k ≤ 8) (S : Search n c k k base r (rowsOf w n m₁) h o cols) where
+  more : 2 ^ r ≤ 2 ^ k
+  more = pow-mono {i = r} {j = k} (S .few)
 
-  two-more : 2 ^ 1 ≤ 2 ^ k
-  two-more = pow-mono {i = 1} {j = k} (omega (arith, S .few))
+  pub room-applies : (h₁ : List ℕ) → length h₁ ≡ length h → ((i : ℕ) → i < n → getD h₁ i 0 < 2 ^ r) → AppliesIn w (w - c / 64) n base r m₁ h₁
+  room-applies h₁ lh small = record {
+    sizes = record { fits = room-less w n (2 ^ r) (2 ^ k) (length m₁) more (omega (arith, z .fits, lm)); narrow = z .narrow; few = omega (arith, z .few, more) };
+    inside = omega arith;
+    rows = S .room;
+    most = omega (arith, S .few, hk);
+    bytes = omega (arith, lh, S .long-h);
+    small = small;
+    low = words-before w n c k base r (rowsOf w n m₁) h o cols hc S;
+  }
 
-  long-room : (n + 2) * w ≤ length m₁
-  long-room = room-less w n 2 (2 ^ k) (length m₁) two-more (omega (arith, z .fits, lm))
-
-  pub room-starts : Sizes w (n + 2) (length m₁) × (base < n)
-  room-starts = (record { fits = long-room; narrow = z .narrow; few = omega (arith, z .few, two-more) }, base-below)
-
-  module _ (m₂ : List ℕ) (e : m₂ ≡ putRow m₁ (n + 1) w (rowAt base w m₁)) where
-    pub room-same : rowsOf w n m₂ ≡ rowsOf w n m₁
-    room-same = room-first w n base m₁ m₂ base-below long-room e .1
-
-    pub room-applies : (h₁ : List ℕ) → length m₂ ≡ length m₁ → length h₁ ≡ length h → ((i : ℕ) → i < n → getD h₁ i 0 < 2 ^ r) → AppliesIn w n base r m₂ h₁
-    room-applies h₁ l₂ lh small =
-        let more : 2 ^ r ≤ 2 ^ k = pow-mono {i = r} {j = k} (S .few) in
-        record {
-          sizes = record { fits = room-less w n (2 ^ r) (2 ^ k) (length m₂) more (omega (arith, z .fits, lm, l₂)); narrow = z .narrow; few = omega (arith, z .few, more) };
-          rows = S .room;
-          some = omega arith;
-          most = omega (arith, S .few, hk);
-          bytes = omega (arith, lh, S .long-h);
-          small = small;
-          first = room-first w n base m₁ m₂ base-below long-room e .0;
-        }
-
-    pub room-rest : (m₃ : List ℕ) → drop ((n + 2 ^ r) * w) m₃ ≡ drop ((n + 2 ^ r) * w) m₂ → drop (n * w) m₁ ≡ drop (n * w) m → drop ((n + 2 ^ k) * w) m₃ ≡ drop ((n + 2 ^ k) * w) m
-    room-rest m₃ rest old =
-        drop-more ((n + 2 ^ r) * w) ((n + 2 ^ k) * w) m₃ m₂ (mul-le-mul-right w (omega (arith, pow-mono {i = r} {j = k} (S .few)))) rest
-        ∙ room-first-past w n (2 ^ k) base m₁ m₂ base-below two-more long-room e
-        ∙ room-drop w n (2 ^ k) m₁ m old
+  pub room-rest : (m₂ : List ℕ) → drop ((n + 2 ^ r) * w) m₂ ≡ drop ((n + 2 ^ r) * w) m₁ → drop (n * w) m₁ ≡ drop (n * w) m → drop ((n + 2 ^ k) * w) m₂ ≡ drop ((n + 2 ^ k) * w) m
+  room-rest m₂ rest old =
+      drop-more ((n + 2 ^ r) * w) ((n + 2 ^ k) * w) m₂ m₁ (mul-le-mul-right w (omega (arith, more))) rest
+      ∙ room-drop w n (2 ^ k) m₁ m old
 
 -- ---- the numbers of a turn of the loop over the windows
 

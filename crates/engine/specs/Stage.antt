@@ -2,20 +2,20 @@
 use mathlib.Core.Path.{_≡_}
 use mathlib.Core.Logic.{_≢_, _⊎_}
 use mathlib.Core.List.{List}
-use Prim.Native.Nat.{ℕ, _+_, _*_, _/_, _^_, _≤_, _<_}
-use lib.ListN.{take, length, getD, set, drop}
+use Prim.Native.Nat.{ℕ, _+_, _-_, _*_, _/_, _%_, _^_, _≤_, _<_}
+use lib.ListN.{length, getD, set, drop}
 use lib.Seq.{paste}
 use Rattle.gf2.specs.Rows.{bit, _⊕_, row, part, pick, combine, RowSpace, SameRowSpace}
 use Rattle.gf2.specs.Reduced.{Pivot}
-use Rattle.gf2.specs.Additions.{totalTo, tableAdditions}
+use Rattle.gf2.specs.Additions.{tableAdditions}
 use Rattle.gf2.specs.Inverse.{tabulate}
-use Rattle.words.specs.Words.{rowsOf, windowBits}
+use Rattle.words.specs.Words.{value, rowsOf, windowBits}
 use Rattle.method.specs.Stage.{Upto, Pending}
 use Rattle.method.specs.Gray.{gray}
 
 -- ---- rows of words
 
--- n rows of w words stand at the start of a buffer of len words
+-- n rows of w words stand at the start of a buffer of len words: at most 1,024 of a matrix and, behind them, 256 of a table
 pub record Sizes (w n len : ℕ) : Type 0 where
   pub fits : n * w ≤ len
   pub narrow : w ≤ 16
@@ -103,13 +103,22 @@ pub record Lifted (c base s l : ℕ) (M N : List ℕ) : Type 0 where
 abbrev pub Book : List ℕ → Type 0
 Book codes = (t : ℕ) → t < 256 → getD codes t 0 ≡ gray t
 
+-- r rows of v words from place a on, w words apart, all end below len
+abbrev pub Within : ℕ → ℕ → ℕ → ℕ → ℕ → Type 0
+Within a w v r len = (b : ℕ) → b < r → a + b * w + v ≤ len
+
+-- these rows
+unfoldable pub spaced : ℕ → ℕ → ℕ → ℕ → List ℕ → List ℕ
+unfolding tabulate
+spaced a w v r m = tabulate r (λ b. value (part (a + b * w) v m))
+
+-- row j of a table of rows of v words
+abbrev pub tableRow : ℕ → List ℕ → ℕ → ℕ
+tableRow v t j = value (part (j * v) v t)
+
 -- row j is the sum of the rows of P that j names. Row 0 is never read
 abbrev pub Table : ℕ → List ℕ → (ℕ → ℕ) → Type 0
 Table r P T = (j : ℕ) → 0 < j → j < 2 ^ r → T j ≡ combine j P
-
--- the same of the codes of steps 1 to t - 1
-abbrev pub Codes : ℕ → List ℕ → (ℕ → ℕ) → Type 0
-Codes t P T = (u : ℕ) → 0 < u → u < t → T (gray u) ≡ combine (gray u) P
 
 -- the recorded pivots of the window of k columns from c
 pub record Marks (c k base r : ℕ) (cols : List ℕ) : Type 0 where
@@ -133,40 +142,41 @@ unfoldable pub cleared : List ℕ → List ℕ → List ℕ → List ℕ
 unfolding tabulate
 cleared o P M = tabulate (length M) (λ i. row M i ⊕ combine (getD o i 0) P)
 
--- what making a table of r rows from base on and clearing by it needs, and what it leaves: table in a slice of its own
-pub record Applies (w n base r : ℕ) (m t o : List ℕ) : Type 0 where
+-- each row with the row of T that its number names added to it, z words up; number 0 names none
+unfoldable pub added : ℕ → List ℕ → (ℕ → ℕ) → List ℕ → List ℕ
+unfolding tabulate pick
+added z o T M = tabulate (length M) (λ i. row M i ⊕ pick (getD o i 0) (T (getD o i 0) * 2 ^ (64 * z)))
+
+-- what making a table of the last v words of r rows from base on and clearing by it needs, and what it leaves: table in a slice of its own
+pub record Applies (w v n base r : ℕ) (m t o : List ℕ) : Type 0 where
   pub sizes : Sizes w n (length m)
+  pub inside : v ≤ w
   pub rows : base + r ≤ n
-  pub some : 0 < r
   pub most : r ≤ 8
   pub table : 2 ^ r * w ≤ length t
   pub bytes : n ≤ length o
   pub small : (i : ℕ) → i < n → getD o i 0 < 2 ^ r
-  pub first : rowAt 1 w t ≡ rowAt base w m
+  pub low : (i : ℕ) → base ≤ i → i < base + r → row (rowsOf w n m) i % 2 ^ (64 * (w - v)) ≡ 0
 
 pub record Applied (w n base r : ℕ) (m t o m′ t′ : List ℕ) (additions : ℕ) : Type 0 where
   pub now : Now w n m m′ (cleared o (part base r (rowsOf w n m)) (rowsOf w n m))
   pub rest : drop (2 ^ r * w) t′ ≡ drop (2 ^ r * w) t
   pub count : additions ≡ tableAdditions r
 
--- the same in one room, whose rows from n on are the table
-pub record AppliesIn (w n base r : ℕ) (m o : List ℕ) : Type 0 where
+-- the same in one room, where the table is behind the n rows
+pub record AppliesIn (w v n base r : ℕ) (m o : List ℕ) : Type 0 where
   pub sizes : Sizes w (n + 2 ^ r) (length m)
+  pub inside : v ≤ w
   pub rows : base + r ≤ n
-  pub some : 0 < r
   pub most : r ≤ 8
   pub bytes : n ≤ length o
   pub small : (i : ℕ) → i < n → getD o i 0 < 2 ^ r
-  pub first : rowAt (n + 1) w m ≡ rowAt base w m
+  pub low : (i : ℕ) → base ≤ i → i < base + r → row (rowsOf w n m) i % 2 ^ (64 * (w - v)) ≡ 0
 
 pub record AppliedIn (w n base r : ℕ) (m o m′ : List ℕ) (additions : ℕ) : Type 0 where
   pub rows : rowsOf w n m′ ≡ cleared o (part base r (rowsOf w n m)) (rowsOf w n m)
   pub rest : drop ((n + 2 ^ r) * w) m′ ≡ drop ((n + 2 ^ r) * w) m
   pub count : additions ≡ tableAdditions r
-
--- the table in one room: row j is row n + j
-abbrev pub tableIn : ℕ → ℕ → ℕ → List ℕ → ℕ → ℕ
-tableIn w n r m j = row (rowsOf w (n + 2 ^ r) m) (n + j)
 
 -- ---- what a window leaves: r pivots more
 
@@ -177,7 +187,7 @@ pub record Windowed (n c k base r : ℕ) (L N cols cols′ : List ℕ) : Type 0 
   pub here : (i : ℕ) → base ≤ i → i < base + r → c ≤ getD cols′ i 0
   pub few : r ≤ k
 
--- ---- what all windows together need, and what their loop keeps
+-- ---- what all windows together need
 
 pub record Whole (w n columns k : ℕ) (m cols : List ℕ) : Type 0 where
   pub few : n ≤ 1024
@@ -189,9 +199,3 @@ pub record Whole (w n columns k : ℕ) (m cols : List ℕ) : Type 0 where
   pub listed : n ≤ length cols
   pub none : (i : ℕ) → i < length cols → getD cols i 0 ≡ 65535
   pub clean : (i : ℕ) → row (rowsOf w n m) i < 2 ^ columns
-
--- after j windows: columns below j * k are done, r pivots found, and their additions counted
-pub record Passed (n columns k j r added : ℕ) (L N cols : List ℕ) : Type 0 where
-  pub stage : Stage n (j * k) r N cols
-  pub space : SameRowSpace L N
-  pub counted : added ≡ totalTo tableAdditions k columns (take r cols) j

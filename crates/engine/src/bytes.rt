@@ -1,9 +1,7 @@
 // A byte for each row: the columns of one window.
 ghost use mathlib.Core.Path.{_≡_};
-ghost use Prim.Native.Nat.{ℕ, _+_, _≤_, _<_, _^_};
-ghost use lib.ListN.{length, getD, replicate};
-ghost use lib.Seq.{paste};
-ghost use Rattle.gf2.specs.Rows.{part};
+ghost use Prim.Native.Nat.{ℕ, _+_, _≤_, _<_};
+ghost use lib.ListN.{length, getD};
 ghost use Rattle.engine.specs.Stage.{Union, Found, Swept, Marks, Gathered};
 
 // the bytes from place `from` to place `to` become 0

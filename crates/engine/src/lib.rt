@@ -1,10 +1,12 @@
 // The reduction by the table, over lists of words: a total core for every call above it. Two forms, for matrix and table in two slices, and in one room.
+// Names throughout: m holds a matrix of n rows of w words. A window is the k columns from column c on; base rows have their pivots left of it, r (while they are
+// sought: s) have theirs in it, and x counts its columns from 0. t is the table. h and o have a byte for each row: see search.rt; in table.rt and room.rt, o has the
+// number of the table row that clears it. cols has the pivot columns found.
 ghost use mathlib.Core.Path.{_≡_};
 ghost use mathlib.Core.Logic.{_⊎_};
-ghost use Prim.Native.Nat.{ℕ, _+_, _-_, _*_, _/_, _^_, _≤_, _<_, min};
+ghost use Prim.Native.Nat.{ℕ, _+_, _*_, _^_, _≤_, _<_, min};
 ghost use lib.ListN.{length, getD, drop};
 ghost use Rattle.gf2.specs.Additions.{windows, tableAdditions};
-ghost use Rattle.gf2.specs.Rows.{row};
 ghost use Rattle.words.specs.Words.{rowsOf};
 ghost use Rattle.refusals.specs.Outcome.{Decides};
 ghost use Rattle.engine.specs.Core.{Fits, Reduction, zeroed, twoSlices, oneRoom};
@@ -47,8 +49,13 @@ fn window(
         };
     }
     search::numbers(m, w, n, c, k, base, r, h, cols);
-    table::first(t, m, w, n, base);
-    let additions = table::apply(codes, m, n, t, h, base, r, w);
+    let s = table::Pivots {
+        n: n,
+        w: w,
+        base: base,
+        r: r,
+    };
+    let additions = table::apply(codes, m, t, h, s, w - c / 64);
     Progress {
         rank: r,
         additions: additions,
@@ -79,8 +86,13 @@ fn window_in(
         };
     }
     search::numbers(m, w, n, c, k, base, r, h, cols);
-    room::first(m, w, n, base);
-    let additions = room::apply(codes, m, n, h, base, r, w);
+    let s = table::Pivots {
+        n: n,
+        w: w,
+        base: base,
+        r: r,
+    };
+    let additions = room::apply(codes, m, h, s, w - c / 64);
     Progress {
         rank: r,
         additions: additions,

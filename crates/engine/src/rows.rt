@@ -1,22 +1,20 @@
-// Rows of w words, by number. Plain loops: where w is a literal and one side a local row, the compiler writes them out.
+// Words by place, and rows of w words by number. Plain loops: where v is a literal and one side a local row, the compiler writes them out.
 ghost use mathlib.Core.Path.{_≡_};
 ghost use mathlib.Core.Logic.{_≢_};
 ghost use Prim.Native.Nat.{_+_, _-_, _*_, _/_, _^_, _≤_, _<_};
 ghost use lib.ListN.{length, set, replicate};
 ghost use lib.Seq.{paste};
-ghost use Rattle.gf2.specs.Rows.{bit, _⊕_, row, swapped, pick};
+ghost use Rattle.gf2.specs.Rows.{bit, _⊕_, row, part, swapped, pick};
 ghost use Rattle.words.specs.Words.{value, rowsOf, xors, windowBits};
 ghost use Rattle.engine.specs.Stage.{rowAt, putRow, Now};
 
-// row j of s is added to row i of d
-pub(crate) fn add_row(d: &mut [u64], i: usize, s: &[u64], j: usize, w: usize)
-    requires { ⌜ (i * w + w ≤ length (now d)) × (j * w + w ≤ length (now s)) ⌝ }
-    ensures { λ _. ⌜ now (d .exit) ≡ putRow (now (d .entry)) i w (xors (rowAt i w (now (d .entry))) (rowAt j w (now (s .entry)))) ⌝ }
+// v words from place b of s on are added to those from place a of d on
+pub(crate) fn add_words(d: &mut [u64], a: usize, s: &[u64], b: usize, v: usize)
+    requires { ⌜ (a + v ≤ length (now d)) × (b + v ≤ length (now s)) ⌝ }
+    ensures { λ _. ⌜ now (d .exit) ≡ paste (now (d .entry)) a (xors (part a v (now (d .entry))) (part b v (now (s .entry)))) v ⌝ }
 {
-    let a = i * w;
-    let b = j * w;
     let mut l = 0;
-    while l < w {
+    while l < v {
         d[a + l] = d[a + l] ^ s[b + l];
         l += 1;
     }
@@ -36,15 +34,13 @@ fn add_within(d: &mut [u64], i: usize, j: usize, w: usize)
     }
 }
 
-// row i of d becomes row j of s
-pub(crate) fn copy_row(d: &mut [u64], i: usize, s: &[u64], j: usize, w: usize)
-    requires { ⌜ (i * w + w ≤ length (now d)) × (j * w + w ≤ length (now s)) ⌝ }
-    ensures { λ _. ⌜ now (d .exit) ≡ putRow (now (d .entry)) i w (rowAt j w (now (s .entry))) ⌝ }
+// v words from place a of d on become those from place b of s on
+pub(crate) fn copy_words(d: &mut [u64], a: usize, s: &[u64], b: usize, v: usize)
+    requires { ⌜ (a + v ≤ length (now d)) × (b + v ≤ length (now s)) ⌝ }
+    ensures { λ _. ⌜ now (d .exit) ≡ paste (now (d .entry)) a (part b v (now (s .entry))) v ⌝ }
 {
-    let a = i * w;
-    let b = j * w;
     let mut l = 0;
-    while l < w {
+    while l < v {
         d[a + l] = s[b + l];
         l += 1;
     }

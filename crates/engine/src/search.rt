@@ -1,12 +1,11 @@
 // The search for a window's pivots: on two bytes a row, the window's bits that it has (h) and those that it will have (o, 0 for a used row).
 // Words of a row are touched only where that row is chosen.
 ghost use mathlib.Core.Path.{_≡_};
-ghost use mathlib.Core.Logic.{_≢_};
 ghost use Prim.Native.Nat.{ℕ, _+_, _*_, _/_, _≤_, _<_};
 ghost use lib.ListN.{length, set, getD, drop};
 ghost use Rattle.gf2.specs.Rows.{bit, row, SameRowSpace};
 ghost use Rattle.words.specs.Words.{rowsOf, value, windowBits};
-ghost use Rattle.engine.specs.Stage.{Sizes, rowAt, Now, Stage, Search, Union, Own, Settled, Lifted, Marks, Numbers};
+ghost use Rattle.engine.specs.Stage.{Sizes, rowAt, Stage, Search, Union, Own, Settled, Lifted, Marks, Numbers};
 use super::bytes;
 use super::rows;
 
@@ -126,6 +125,7 @@ fn column(
         return a;
     }
     let i = bytes::find(o, x, base + s, n);
+    // cannot be, for the union is exact; what is proved of it is only that it misses no one
     if i == n {
         return a;
     }
@@ -179,6 +179,7 @@ pub(crate) fn numbers(
     ensures { λ _. ⌜ Numbers n base r (rowsOf w n (now (m .entry))) (now (h .exit)) (now (cols .entry)) ⌝ }
 {
     read(m, w, n, c, k, 0, base, h);
+    // where every column of the window has a pivot, the bits are the number already
     if r != k {
         bytes::gather_all(h, n, cols, base, c, k, r);
     }

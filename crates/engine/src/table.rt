@@ -1,15 +1,18 @@
 // The table of all sums of a window's pivot rows, and the rows cleared by it: matrix and table in two slices.
+// Row 0, the sum of no rows, is neither made nor read: a row whose number is 0 stays as it is.
 ghost use mathlib.Core.Path.{_≡_};
-ghost use Prim.Native.Nat.{ℕ, suc, _+_, _-_, _*_, _^_, _≤_, _<_};
+ghost use Prim.Native.Nat.{ℕ, _+_, _-_, _*_, _^_, _≤_, _<_};
 ghost use lib.Count.{trailingZeros};
 ghost use lib.ListN.{length, getD, drop};
+ghost use lib.Seq.{paste};
 ghost use Rattle.gf2.specs.Additions.{tableAdditions};
-ghost use Rattle.gf2.specs.Rows.{_⊕_, row, part, combine};
-ghost use Rattle.words.specs.Words.{rowsOf, value, xors};
+ghost use Rattle.gf2.specs.Rows.{row, part};
+ghost use Rattle.words.specs.Words.{rowsOf, xors};
 ghost use Rattle.method.specs.Gray.{gray};
-ghost use Rattle.engine.specs.Stage.{Sizes, rowAt, putRow, Now, Book, Table, cleared, Applies, Applied};
+ghost use Rattle.engine.specs.Stage.{Sizes, Now, Book, Within, spaced, Table, tableRow, added, Applies, Applied};
 use super::rows;
 
+// the reflected Gray code of 0 to 255: entry t is t ^ t / 2, as proofs/Codebook checks for all entries at once
 const CODES: [u8; 256] = [
     0,
     1,
@@ -283,7 +286,7 @@ pub(crate) fn code(codes: &[u8; 256], t: usize) -> usize
     codes[t] as usize
 }
 
-// the row that joins or leaves at step t
+// which of the window's pivot rows is added at step t: the codes of t - 1 and t differ in that digit
 pub(crate) fn joins(t: usize) -> usize
     requires { ⌜ t < 256 ⌝ }
     ensures { λ r. ⌜ r ≡ trailingZeros 32 t ⌝ }
@@ -298,133 +301,146 @@ pub(crate) fn pow2(k: usize) -> usize
     1 << k
 }
 
-// the first step: table row 1 is the first pivot row
-pub(crate) fn first(t: &mut [u64], m: &[u64], w: usize, n: usize, base: usize)
-    requires { ⌜ Sizes w n (length (now m)) × (base < n) × (2 * w ≤ length (now t)) ⌝ }
-    ensures { λ _. ⌜ now (t .exit) ≡ putRow (now (t .entry)) 1 w (rowAt base w (now (m .entry))) ⌝ }
-{
-    rows::copy_row(t, 1, m, base, w);
+// the pivot rows that a window has found: r rows from row base on, among n rows of w words
+pub(crate) struct Pivots {
+    pub(crate) n: usize,
+    pub(crate) w: usize,
+    pub(crate) base: usize,
+    pub(crate) r: usize,
 }
 
-// x, the table row before, becomes the one of step l and is stored
+// x, the sum of the step before, becomes that of step l and is stored
 fn step(
     codes: &[u8; 256],
     t: &mut [u64],
     x: &mut [u64; 16],
     m: &[u64],
-    n: usize,
-    base: usize,
-    r: usize,
+    a: usize,
     l: usize,
     w: usize,
+    v: usize,
 )
-    requires { ⌜ Sizes w n (length (now m)) × (base + r ≤ n) × (r ≤ 8) × (2 ^ r * w ≤ length (now t)) × (length (now x) ≡ 16) × (1 < l) × (l < 2 ^ r) × Book (now codes) ⌝ }
-    ensures { λ _. ⌜ (length (now (x .exit)) ≡ 16) × (now (x .exit) ≡ putRow (now (x .entry)) 0 w (xors (rowAt 0 w (now (x .entry))) (rowAt (base + trailingZeros 32 l) w (now (m .entry))))) × (now (t .exit) ≡ putRow (now (t .entry)) (gray l) w (rowAt 0 w (now (x .exit)))) ⌝ }
+    requires { ⌜ (l < 256) × (length (now x) ≡ 16) × (v ≤ 16) × (a + trailingZeros 32 l * w + v ≤ length (now m)) × (gray l * v + v ≤ length (now t)) × Book (now codes) ⌝ }
+    ensures { λ _. ⌜ (length (now (x .exit)) ≡ 16) × (now (x .exit) ≡ paste (now (x .entry)) 0 (xors (part 0 v (now (x .entry))) (part (a + trailingZeros 32 l * w) v (now (m .entry)))) v) × (now (t .exit) ≡ paste (now (t .entry)) (gray l * v) (part 0 v (now (x .exit))) v) ⌝ }
 {
-    rows::add_row(x, 0, m, base + joins(l), w);
-    rows::copy_row(t, code(codes, l), x, 0, w);
+    rows::add_words(x, 0, m, a + joins(l) * w, v);
+    rows::copy_words(t, code(codes, l) * v, x, 0, v);
 }
 
-// the table of the r rows from base on, in Gray code order; row 1 is there. Answers the number of additions, the first step's included
+// the table of the r rows of v words, w words apart, from place a of m on: in Gray code order, row j at place j * v. Answers the number of additions
 fn make(
     codes: &[u8; 256],
     t: &mut [u64],
     m: &[u64],
-    n: usize,
-    base: usize,
+    a: usize,
     r: usize,
     w: usize,
+    v: usize,
 ) -> usize
-    requires { ⌜ Sizes w n (length (now m)) × (base + r ≤ n) × (0 < r) × (r ≤ 8) × (2 ^ r * w ≤ length (now t)) × (rowAt 1 w (now t) ≡ rowAt base w (now m)) × Book (now codes) ⌝ }
-    ensures { λ a. ⌜ (a ≡ tableAdditions r) × Table r (part base r (rowsOf w n (now (m .entry)))) (row (rowsOf w (2 ^ r) (now (t .exit)))) × (drop (2 ^ r * w) (now (t .exit)) ≡ drop (2 ^ r * w) (now (t .entry))) ⌝ }
+    requires { ⌜ (r ≤ 8) × (v ≤ 16) × Within a w v r (length (now m)) × (2 ^ r * v ≤ length (now t)) × Book (now codes) ⌝ }
+    ensures { λ n. ⌜ (n ≡ tableAdditions r) × Table r (spaced a w v r (now (m .entry))) (row (rowsOf v (2 ^ r) (now (t .exit)))) × (drop (2 ^ r * v) (now (t .exit)) ≡ drop (2 ^ r * v) (now (t .entry))) ⌝ }
 {
     let mut x = [0u64; 16];
-    rows::copy_row(&mut x, 0, t, 1, w);
     let end = pow2(r);
-    let mut additions = 1;
-    let mut l = 2;
+    let mut additions = 0;
+    let mut l = 1;
     while l < end {
-        step(codes, t, &mut x, m, n, base, r, l, w);
+        step(codes, t, &mut x, m, a, l, w, v);
         additions += 1;
         l += 1;
     }
     additions
 }
 
-// table row j is added to row i, by way of a local row
-fn clear_by(m: &mut [u64], i: usize, t: &[u64], j: usize, w: usize)
-    requires { ⌜ (w ≤ 16) × (i * w + w ≤ length (now m)) × (j * w + w ≤ length (now t)) ⌝ }
-    ensures { λ _. ⌜ now (m .exit) ≡ putRow (now (m .entry)) i w (xors (rowAt i w (now (m .entry))) (rowAt j w (now (t .entry)))) ⌝ }
+// v words from place b of t on are added to those from place a of m on, by way of a local row
+fn clear_by(m: &mut [u64], a: usize, t: &[u64], b: usize, v: usize)
+    requires { ⌜ (v ≤ 16) × (a + v ≤ length (now m)) × (b + v ≤ length (now t)) ⌝ }
+    ensures { λ _. ⌜ now (m .exit) ≡ paste (now (m .entry)) a (xors (part a v (now (m .entry))) (part b v (now (t .entry)))) v ⌝ }
 {
     let mut x = [0u64; 16];
-    rows::copy_row(&mut x, 0, t, j, w);
-    rows::add_row(m, i, &x, 0, w);
+    rows::copy_words(&mut x, 0, t, b, v);
+    rows::add_words(m, a, &x, 0, v);
 }
 
-// each row is cleared by the table row whose number it has
-fn clear(m: &mut [u64], n: usize, t: &[u64], o: &[u8], base: usize, r: usize, w: usize)
-    requires { ⌜ Sizes w n (length (now m)) × (base + r ≤ n) × (r ≤ 8) × (2 ^ r * w ≤ length (now t)) × (n ≤ length (now o)) × ((i : ℕ) → i < n → getD (now o) i 0 < 2 ^ r) × Table r (part base r (rowsOf w n (now m))) (row (rowsOf w (2 ^ r) (now t))) ⌝ }
-    ensures { λ _. ⌜ Now w n (now (m .entry)) (now (m .exit)) (cleared (now (o .entry)) (part base r (rowsOf w n (now (m .entry)))) (rowsOf w n (now (m .entry)))) ⌝ }
+// to the last v words of each row the table row is added whose number it has
+fn clear(m: &mut [u64], n: usize, t: &[u64], o: &[u8], w: usize, v: usize)
+    requires { ⌜ Sizes w n (length (now m)) × (v ≤ w) × (n ≤ length (now o)) × ((i : ℕ) → i < n → getD (now o) i 0 * v + v ≤ length (now t)) ⌝ }
+    ensures { λ _. ⌜ Now w n (now (m .entry)) (now (m .exit)) (added (w - v) (now (o .entry)) (tableRow v (now (t .entry))) (rowsOf w n (now (m .entry)))) ⌝ }
 {
     let mut i = 0;
     while i < n {
         let j = o[i] as usize;
         if j != 0 {
-            clear_by(m, i, t, j, w);
+            clear_by(m, i * w + (w - v), t, j * v, v);
         }
         i += 1;
     }
 }
 
+// makes the table of the last v words of the pivot rows and clears the rows by it; answers the additions
 fn apply_width(
     codes: &[u8; 256],
     m: &mut [u64],
-    n: usize,
     t: &mut [u64],
     o: &[u8],
-    base: usize,
-    r: usize,
-    w: usize,
+    s: Pivots,
+    v: usize,
 ) -> usize
-    requires { ⌜ Applies w n base r (now m) (now t) (now o) × Book (now codes) ⌝ }
-    ensures { λ a. ⌜ Applied w n base r (now (m .entry)) (now (t .entry)) (now (o .entry)) (now (m .exit)) (now (t .exit)) a ⌝ }
+    requires { ⌜ Applies (s .w) v (s .n) (s .base) (s .r) (now m) (now t) (now o) × Book (now codes) ⌝ }
+    ensures { λ a. ⌜ Applied (s .w) (s .n) (s .base) (s .r) (now (m .entry)) (now (t .entry)) (now (o .entry)) (now (m .exit)) (now (t .exit)) a ⌝ }
 {
-    let additions = make(codes, t, m, n, base, r, w);
-    clear(m, n, t, o, base, r, w);
+    let a = s.base * s.w + (s.w - v);
+    let additions = make(codes, t, m, a, s.r, s.w, v);
+    clear(m, s.n, t, o, s.w, v);
     additions
 }
 
-// the same for every w: the literals make the compiler write out each width
+// the same for widths above 8
+fn apply_wide(
+    codes: &[u8; 256],
+    m: &mut [u64],
+    t: &mut [u64],
+    o: &[u8],
+    s: Pivots,
+    v: usize,
+) -> usize
+    requires { ⌜ Applies (s .w) v (s .n) (s .base) (s .r) (now m) (now t) (now o) × Book (now codes) ⌝ }
+    ensures { λ a. ⌜ Applied (s .w) (s .n) (s .base) (s .r) (now (m .entry)) (now (t .entry)) (now (o .entry)) (now (m .exit)) (now (t .exit)) a ⌝ }
+{
+    match v {
+        9 => apply_width(codes, m, t, o, s, 9),
+        10 => apply_width(codes, m, t, o, s, 10),
+        11 => apply_width(codes, m, t, o, s, 11),
+        12 => apply_width(codes, m, t, o, s, 12),
+        13 => apply_width(codes, m, t, o, s, 13),
+        14 => apply_width(codes, m, t, o, s, 14),
+        15 => apply_width(codes, m, t, o, s, 15),
+        16 => apply_width(codes, m, t, o, s, 16),
+        _ => apply_width(codes, m, t, o, s, v),
+    }
+}
+
+// the same for every v: the literals make the compiler write out each width. The other words of the pivot rows are zero
 pub(crate) fn apply(
     codes: &[u8; 256],
     m: &mut [u64],
-    n: usize,
     t: &mut [u64],
     o: &[u8],
-    base: usize,
-    r: usize,
-    w: usize,
+    s: Pivots,
+    v: usize,
 ) -> usize
-    requires { ⌜ Applies w n base r (now m) (now t) (now o) × Book (now codes) ⌝ }
-    ensures { λ a. ⌜ Applied w n base r (now (m .entry)) (now (t .entry)) (now (o .entry)) (now (m .exit)) (now (t .exit)) a ⌝ }
+    requires { ⌜ Applies (s .w) v (s .n) (s .base) (s .r) (now m) (now t) (now o) × Book (now codes) ⌝ }
+    ensures { λ a. ⌜ Applied (s .w) (s .n) (s .base) (s .r) (now (m .entry)) (now (t .entry)) (now (o .entry)) (now (m .exit)) (now (t .exit)) a ⌝ }
 {
-    match w {
-        1 => apply_width(codes, m, n, t, o, base, r, 1),
-        2 => apply_width(codes, m, n, t, o, base, r, 2),
-        3 => apply_width(codes, m, n, t, o, base, r, 3),
-        4 => apply_width(codes, m, n, t, o, base, r, 4),
-        5 => apply_width(codes, m, n, t, o, base, r, 5),
-        6 => apply_width(codes, m, n, t, o, base, r, 6),
-        7 => apply_width(codes, m, n, t, o, base, r, 7),
-        8 => apply_width(codes, m, n, t, o, base, r, 8),
-        9 => apply_width(codes, m, n, t, o, base, r, 9),
-        10 => apply_width(codes, m, n, t, o, base, r, 10),
-        11 => apply_width(codes, m, n, t, o, base, r, 11),
-        12 => apply_width(codes, m, n, t, o, base, r, 12),
-        13 => apply_width(codes, m, n, t, o, base, r, 13),
-        14 => apply_width(codes, m, n, t, o, base, r, 14),
-        15 => apply_width(codes, m, n, t, o, base, r, 15),
-        16 => apply_width(codes, m, n, t, o, base, r, 16),
-        _ => apply_width(codes, m, n, t, o, base, r, w),
+    match v {
+        1 => apply_width(codes, m, t, o, s, 1),
+        2 => apply_width(codes, m, t, o, s, 2),
+        3 => apply_width(codes, m, t, o, s, 3),
+        4 => apply_width(codes, m, t, o, s, 4),
+        5 => apply_width(codes, m, t, o, s, 5),
+        6 => apply_width(codes, m, t, o, s, 6),
+        7 => apply_width(codes, m, t, o, s, 7),
+        8 => apply_width(codes, m, t, o, s, 8),
+        _ => apply_wide(codes, m, t, o, s, v),
     }
 }

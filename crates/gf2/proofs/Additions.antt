@@ -11,9 +11,9 @@ use lib.Dec.{leb, ltb}
 use lib.ListN.{length, getD}
 use lib.Pow.{pow-pos, pow-mono}
 use Rattle.gf2.specs.Rows.{SameRowSpace}
-use Rattle.gf2.specs.Reduced.{Reduced, pivots}
+use Rattle.gf2.specs.Reduced.{Reduced, pivots, Rising}
 use Rattle.gf2.specs.Additions.{windows, count, within, inWindow, totalTo, total, tableAdditions, additions}
-use Rattle.gf2.proofs.Pivots.{Rising, pivots-rising, same-pivots}
+use Rattle.gf2.proofs.Pivots.{pivots-rising, same-pivots}
 
 -- ---- columns a to e - 1
 

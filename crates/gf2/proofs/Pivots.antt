@@ -10,14 +10,9 @@ use borrow.Author.Tests.{eq-eqb, ne-eqb, eqb-true, eqb-false}
 use lib.Dec.{eqb}
 use lib.ListN.{length, getD, List·getD-eq-default}
 use Rattle.gf2.specs.Rows.{row, SameRowSpace}
-use Rattle.gf2.specs.Reduced.{Pivot, Reduced, pivot, addPivot, pivots, rank}
+use Rattle.gf2.specs.Reduced.{Pivot, Reduced, pivot, addPivot, pivots, rank, PivotList, Rising}
 use Rattle.gf2.proofs.Pivot.{pivot-is, pivot-not-zero, no-pivot, pivot-unique}
 use Rattle.gf2.proofs.Reduced.{reduced-tail, same-reduced-rows}
-
--- ps are the pivots of the first rows of R, and the other rows are zero
-pub record PivotList (R ps : List ℕ) : Type 0 where
-  pub used : (i : ℕ) → i < length ps → Pivot (getD ps i 0) (row R i)
-  pub rest : (i : ℕ) → length ps ≤ i → row R i ≡ 0
 
 -- there is no other such list than the computed one
 pub pivots-are : (R ps : List ℕ) → PivotList R ps → pivots R ≡ ps
@@ -71,9 +66,6 @@ rank-le R hR = go (decLt (length R) (rank R))
     go (no k) = omega arith
 
 -- ---- pivots rise
-
-abbrev pub Rising : List ℕ → Type 0
-Rising ps = (i j : ℕ) → i < j → j < length ps → getD ps i 0 < getD ps j 0
 
 pub pivots-rising : (R : List ℕ) → Reduced R → Rising (pivots R)
 pivots-rising R hR i j h l = hR .rising i j (getD (pivots R) i 0) (getD (pivots R) j 0) h (pivots-list R hR .used i (omega arith)) (pivots-list R hR .used j l)

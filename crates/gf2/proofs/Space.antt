@@ -1,4 +1,4 @@
--- Sums of rows, the row space, and what leaves it as it is: adding to a row a sum of others, exchanging two rows.
+-- Sums of rows, the row space, and that exchanging two rows leaves it as it is.
 use mathlib.Core.Path.{_≡_, refl, sym, _∙_, subst}
 use mathlib.Core.Logic.{_≢_, _⊎_, inl, inr}
 use mathlib.Core.List.{List, [], _∷_, map}
@@ -11,7 +11,7 @@ use lib.ListN.{List·getD-eq-default, length-set, length, set}
 use lib.Pow.{pow-pos}
 use lib.Seq.{getD-set-same, getD-set-other}
 use Rattle.gf2.specs.Rows.{bit, _⊕_, row, swapped, pick, combine, RowSpace, SameRowSpace}
-use Rattle.gf2.proofs.Bits.{digit-cases, half-lt, bit-low, bit-suc, bit-xor, bit-mod, bit-pow, bit-pow-other, differ-zero, differ-self, xor-last, xor-half, xor-back, xor-four, eq-of-xor}
+use Rattle.gf2.proofs.Bits.{digit-cases, half-lt, bit-low, bit-suc, bit-xor, bit-mod, bit-pow, bit-pow-other, differ-zero, differ-self, xor-last, xor-half, xor-four, eq-of-xor}
 
 -- ---- a row that counts or not
 
@@ -168,7 +168,7 @@ each-cons P r L a b (suc i) = b i
 -- ---- one row replaced
 
 -- what holds of the stored row and of each other row holds of each row after the store
-pub each-set : (P : ℕ → Type 0) (L : List ℕ) (i a : ℕ) → i < length L → P a → ((k : ℕ) → k ≢ i → P (row L k)) → (k : ℕ) → P (row (set L i a) k)
+each-set : (P : ℕ → Type 0) (L : List ℕ) (i a : ℕ) → i < length L → P a → ((k : ℕ) → k ≢ i → P (row L k)) → (k : ℕ) → P (row (set L i a) k)
 each-set P L i a h pa pk k = go (ℕ-discrete k i)
   where
     go : Dec (k ≡ i) → P (row (set L i a) k)
@@ -176,35 +176,20 @@ each-set P L i a h pa pk k = go (ℕ-discrete k i)
     go (no n) = rw (getD-set-other L i k a 0 n) (pk k n)
 
 -- what holds of row i and of each other row holds of each row
-pub each-but : (P : ℕ → Type 0) (L : List ℕ) (i : ℕ) → P (row L i) → ((k : ℕ) → k ≢ i → P (row L k)) → (k : ℕ) → P (row L k)
+each-but : (P : ℕ → Type 0) (L : List ℕ) (i : ℕ) → P (row L i) → ((k : ℕ) → k ≢ i → P (row L k)) → (k : ℕ) → P (row L k)
 each-but P L i pi pk k = go (ℕ-discrete k i)
   where
     go : Dec (k ≡ i) → P (row L k)
     go (yes e) = rw e pi
     go (no n) = pk k n
 
-pub space-other : (L : List ℕ) (i a k : ℕ) → k ≢ i → RowSpace (set L i a) (row L k)
+space-other : (L : List ℕ) (i a k : ℕ) → k ≢ i → RowSpace (set L i a) (row L k)
 space-other L i a k n = rw (getD-set-other L i k a 0 n) at (space-row (set L i a) k)
 
-pub space-stored : (L : List ℕ) (i a : ℕ) → i < length L → RowSpace (set L i a) a
+space-stored : (L : List ℕ) (i a : ℕ) → i < length L → RowSpace (set L i a) a
 space-stored L i a h = rw (getD-set-same L i a 0 h) at (space-row (set L i a) i)
 
--- adding to row i a sum of the other rows leaves the row space as it was
-pub add-sum : (L : List ℕ) (i t : ℕ) → i < length L → RowSpace (set L i 0) t → SameRowSpace (set L i (row L i ⊕ t)) L
-add-sum L i t h s =
-    let r : ℕ = row L i in
-    let N : List ℕ = set L i (r ⊕ t) in
-    let inL : RowSpace L t = space-sub (set L i 0) L (each-set (RowSpace L) L i 0 h (space-zero L) (λ k n. space-row L k)) t s in
-    let inN : RowSpace N t = space-sub (set L i 0) N (each-set (RowSpace N) L i 0 h (space-zero N) (λ k n. space-other L i (r ⊕ t) k n)) t s in
-    same-rows N L
-    (each-set (RowSpace L) L i (r ⊕ t) h (space-xor L r t (space-row L i) inL) (λ k n. space-row L k))
-    (each-but (RowSpace N) L i (rw xor-back at (space-xor N (r ⊕ t) t (space-stored L i (r ⊕ t) h) inN)) (λ k n. space-other L i (r ⊕ t) k n))
-
--- so does adding row j to row i
-pub add-row : (L : List ℕ) (i j : ℕ) → i < length L → j ≢ i → SameRowSpace (set L i (row L i ⊕ row L j)) L
-add-row L i j h n = add-sum L i (row L j) h (space-other L i 0 j n)
-
--- so does exchanging two rows
+-- exchanging two rows leaves the row space as it was
 pub swap-rows : (L : List ℕ) (i j : ℕ) → i < length L → j < length L → SameRowSpace (swapped i j L) L
 swap-rows L i j hi hj =
     same-rows N L

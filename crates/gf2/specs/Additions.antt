@@ -6,10 +6,11 @@ use Prim.Native.Nat.{ℕ, zero, suc, _+_, _-_, _*_, _/_, _^_, min}
 use lib.Dec.{leb, ltb}
 use Rattle.gf2.specs.Reduced.{pivots}
 
--- windows of k columns; the last may be narrower
+-- how many windows of k columns there are; the last may be narrower
 abbrev pub windows : ℕ → ℕ → ℕ
 windows k columns = (columns + (k - 1)) / k
 
+-- 1 where the test holds, else 0
 abbrev pub count : Bool → ℕ
 count true = 1
 count false = 0

@@ -3,9 +3,9 @@ use mathlib.Core.Path.{_≡_}
 use mathlib.Core.Logic.{_≢_}
 use mathlib.Core.Bool.{Bool, true, false}
 use mathlib.Core.List.{List, [], _∷_}
-use Prim.Native.Nat.{ℕ, zero, suc, _/_, _%_, _<_}
+use Prim.Native.Nat.{ℕ, zero, suc, _/_, _%_, _≤_, _<_}
 use lib.Dec.{eqb}
-use lib.ListN.{length}
+use lib.ListN.{length, getD}
 use Rattle.gf2.specs.Rows.{bit, row, SameRowSpace}
 
 -- column p holds the first one of the row v: p is its pivot
@@ -13,7 +13,7 @@ pub record Pivot (p v : ℕ) : Type 0 where
   pub one : bit p v ≡ 1
   pub before : (c : ℕ) → c < p → bit c v ≡ 0
 
--- Zero rows come last; the pivot of each other row stands right of the pivots above; a pivot is the only one in its column.
+-- Below a zero row stand only zero rows; pivots move to the right from row to row; the column of a pivot has no further one.
 pub record Reduced (M : List ℕ) : Type 0 where
   pub last : (i j : ℕ) → i < j → row M i ≡ 0 → row M j ≡ 0
   pub rising : (i j p q : ℕ) → i < j → Pivot p (row M i) → Pivot q (row M j) → p < q
@@ -50,3 +50,12 @@ pivots (r ∷ M) = addPivot (eqb r 0) (pivot r) (pivots M)
 
 abbrev pub rank : List ℕ → ℕ
 rank M = length (pivots M)
+
+-- ps are the pivots of the first rows of R, and the other rows are zero
+pub record PivotList (R ps : List ℕ) : Type 0 where
+  pub used : (i : ℕ) → i < length ps → Pivot (getD ps i 0) (row R i)
+  pub rest : (i : ℕ) → length ps ≤ i → row R i ≡ 0
+
+-- each number is greater than those before it
+abbrev pub Rising : List ℕ → Type 0
+Rising ps = (i j : ℕ) → i < j → j < length ps → getD ps i 0 < getD ps j 0

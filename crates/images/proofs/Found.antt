@@ -14,21 +14,7 @@ use Rattle.gf2.specs.Rows.{row, SameRowSpace}
 use Rattle.gf2.specs.Reduced.{Pivot, Reduced}
 use Rattle.gf2.proofs.Pivot.{pivot-cases, pivot-not-zero, no-pivot, pivot-unique, pivot-cut, pivot-uncut, pivot-narrow, cut-zero, zero-cut}
 use Rattle.gf2.proofs.Reduced.{same-reduced-rows}
-use Rattle.images.specs.ReadOff.{ifThen, inside, pivotRow}
-
--- row `at` is the first whose pivot stands there
-pub record Found (a e : ℕ) (R : List ℕ) : Type 0 where
-  pub at : ℕ
-  pub column : ℕ
-  pub pivot : Pivot column (row R at)
-  pub from : a ≤ column
-  pub to : column < e
-  pub is : pivotRow a e R ≡ row R at
-  pub first : (j q : ℕ) → j < at → Pivot q (row R j) → a ≤ q → q < e → ⊥
-
-pub record Missing (a e : ℕ) (R : List ℕ) : Type 0 where
-  pub is : pivotRow a e R ≡ 0
-  pub none : (j q : ℕ) → Pivot q (row R j) → a ≤ q → q < e → ⊥
+use Rattle.images.specs.ReadOff.{inside, pivotRow, Found, Missing}
 
 -- ---- the test: nothing left of column a, something left of column e
 
@@ -52,7 +38,7 @@ inside-cases a e r = go (eqb (r % 2 ^ a) 0) (eqb (r % 2 ^ e) 0) refl refl
             (q, g, zero-cut a q r (eqb-true (r % 2 ^ a) 0 ex) g, l)
 
 pub found-cases : (a e : ℕ) (R : List ℕ) → Missing a e R ⊎ Found a e R
-unfolding pivotRow ifThen
+unfolding pivotRow
 found-cases a e [] = inl (record { is = refl; none = λ j q f h l. no-pivot q f })
 found-cases a e (r ∷ R) = go (inside-cases a e r) (found-cases a e R)
   where
@@ -91,7 +77,7 @@ unfolding inside
 zero-outside a e = rw (zero-mod (2 ^ a), zero-mod (2 ^ e))
 
 pub rows-pivotRow : (a e : ℕ) (R S : List ℕ) → ((i : ℕ) → row R i ≡ row S i) → pivotRow a e R ≡ pivotRow a e S
-unfolding pivotRow ifThen
+unfolding pivotRow
 rows-pivotRow a e [] [] h = refl
 rows-pivotRow a e [] (s ∷ S) h = rw (← (h 0), zero-outside a e) (rows-pivotRow a e [] S (λ i. h (suc i)))
 rows-pivotRow a e (r ∷ R) [] h = rw (h 0, zero-outside a e) (rows-pivotRow a e R [] (λ i. h (suc i)))

@@ -1,7 +1,8 @@
 -- The third demand, about the definitions. R is any reduced list with the row space of the packets L: a list is contradictory exactly if a pivot of R falls
 -- in the payload; otherwise a block is known exactly if all images that meet L agree on it, and its content is theirs.
-use mathlib.Core.Path.{_≡_, sym, _∙_}
+use mathlib.Core.Path.{_≡_, sym, ap, _∙_, subst}
 use mathlib.Core.Logic.{_⊎_, inl, inr, _↔_}
+use mathlib.Core.Bool.{not}
 use mathlib.Core.List.{List}
 use Prim.Native.Nat.{ℕ, _+_, _%_, _^_, _<_}
 use native.Mathlib.Decide.{ℕ-discrete, decLt}
@@ -15,8 +16,8 @@ use Rattle.gf2.specs.Reduced.{Pivot, Reduced}
 use Rattle.gf2.proofs.Space.{combine-pow, same-sym, same-narrow}
 use Rattle.gf2.proofs.Pivot.{pivot-narrow}
 use Rattle.images.specs.Packets.{Meets, MeetsAll, Met, Contradictory, Agreed}
-use Rattle.images.specs.ReadOff.{pivotRow, hasPivot, contradictory, known, content}
-use Rattle.images.proofs.Found.{Found, Missing, found-cases, found-not-zero}
+use Rattle.images.specs.ReadOff.{pivotRow, Found, Missing, hasPivot, contradictory, known, content}
+use Rattle.images.proofs.Found.{found-cases, found-not-zero}
 use Rattle.images.proofs.Meeting.{meets-same, met-pivot}
 use Rattle.images.proofs.Solution.{rowOf, rowOf-cases, solution, solution-meets, solution-image, two-images}
 
@@ -49,7 +50,7 @@ module _ (n p : ℕ) (L R : List ℕ) (narrow : (i : ℕ) → row L i < 2 ^ (n +
   contradictory-exactly = (to (found-cases n (n + p) R), back (found-cases n (n + p) R))
     where
       to : Missing n (n + p) R ⊎ Found n (n + p) R → T (contradictory n p R) → Contradictory n p L
-      to (inl m) t = absurd (rw (eq-eqb (pivotRow n (n + p) R) 0 (m .is)) at t)
+      to (inl m) t = absurd (subst T (ap not (eq-eqb (pivotRow n (n + p) R) 0 (m .is))) t)
       to (inr f) t = found-unmet f
 
       back : Missing n (n + p) R ⊎ Found n (n + p) R → Contradictory n p L → T (contradictory n p R)

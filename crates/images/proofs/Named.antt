@@ -1,5 +1,5 @@
--- The contradiction call's set. R is any reduced list with the row space of [packets | identity]: the named packets' coefficients sum to zero and their
--- payloads do not; and none are named exactly if some image meets all packets.
+-- The contradiction call's set. R is any reduced list with the row space of [packets | identity]: the sum of the named packets has no coefficient and some
+-- payload; and none are named exactly if some image meets all packets.
 use mathlib.Core.Path.{_≡_, refl, ap}
 use mathlib.Core.Logic.{_≢_, _⊎_, inl, inr, _↔_}
 use mathlib.Core.List.{List}
@@ -18,8 +18,8 @@ use Rattle.gf2.proofs.Reduced.{space-pivot}
 use Rattle.gf2.proofs.Rref.{rref-form}
 use Rattle.gf2.proofs.Adjoin.{adjoin-left, adjoin-names, adjoin-narrow}
 use Rattle.images.specs.Packets.{Met, Contradiction}
-use Rattle.images.specs.ReadOff.{pivotRow, named}
-use Rattle.images.proofs.Found.{Found, Missing, found-cases, same-pivotRow}
+use Rattle.images.specs.ReadOff.{pivotRow, Found, Missing, named}
+use Rattle.images.proofs.Found.{found-cases, same-pivotRow}
 use Rattle.images.proofs.Meeting.{contradiction-unmet}
 use Rattle.images.proofs.Known.{missing-met}
 

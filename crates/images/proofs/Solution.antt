@@ -17,8 +17,8 @@ use Rattle.gf2.proofs.Pivot.{pivot-cases, pivot-unique}
 use Rattle.gf2.proofs.Reduced.{pivot-row}
 use Rattle.gf2.proofs.Products.{tabulate-row, tabulate-past, tabulate-length, tabulate-each, combine-tabulate-xor}
 use Rattle.images.specs.Packets.{payload, Image, Meets, MeetsAll}
-use Rattle.images.specs.ReadOff.{pivotRow}
-use Rattle.images.proofs.Found.{Found, Missing, found-cases}
+use Rattle.images.specs.ReadOff.{pivotRow, Found, Missing}
+use Rattle.images.proofs.Found.{found-cases}
 
 -- the row whose pivot is j, or zero
 abbrev pub rowOf : List ℕ → ℕ → ℕ

@@ -1,5 +1,5 @@
 -- Packets, images, and when an image meets a packet.
--- A packet is a row of n coefficients and, from column n on, p payload bits. An image is n blocks of p bits, one row a block.
+-- Columns 0 to n - 1 of a packet are its coefficients, the p columns behind them its payload. An image has a row of p bits for each of n blocks.
 use mathlib.Core.Path.{_≡_}
 use mathlib.Core.Logic.{_≢_}
 use mathlib.Core.List.{List}
@@ -16,7 +16,7 @@ payload n v = v / 2 ^ n
 abbrev pub Image : ℕ → ℕ → List ℕ → Type 0
 Image n p X = Matrix n p X
 
--- the sum of the blocks whose coefficient is 1 equals the payload
+-- the blocks that the coefficients choose sum to the payload
 unfoldable pub Meets : ℕ → List ℕ → ℕ → Type 0
 Meets n X v = combine (coefficients n v) X ≡ payload n v
 
@@ -24,10 +24,11 @@ Meets n X v = combine (coefficients n v) X ≡ payload n v
 abbrev pub MeetsAll : ℕ → List ℕ → List ℕ → Type 0
 MeetsAll n X L = (i : ℕ) → Meets n X (row L i)
 
--- some image meets all packets, and none does
+-- some image meets all packets
 abbrev pub Met : ℕ → ℕ → List ℕ → Type 0
 Met n p L = (X : List ℕ) × Image n p X × MeetsAll n X L
 
+-- no image meets all packets
 abbrev pub Contradictory : ℕ → ℕ → List ℕ → Type 0
 Contradictory n p L = Met n p L → ⊥
 
@@ -39,7 +40,7 @@ Agreed n p L j = (X Y : List ℕ) → Image n p X → Image n p Y → MeetsAll n
 abbrev pub Among : List ℕ → List ℕ → Type 0
 Among L M = (i : ℕ) → i < length L → (j : ℕ) × (j < length M) × (row M j ≡ row L i)
 
--- the packets of L that c names contradict each other: their coefficients sum to zero and their payloads do not
+-- the packets of L that c names contradict each other: in their sum every coefficient is zero and some payload bit is not
 pub record Contradiction (n : ℕ) (L : List ℕ) (c : ℕ) : Type 0 where
   pub coefficients-zero : coefficients n (combine c L) ≡ 0
   pub payloads-not : payload n (combine c L) ≢ 0

@@ -1,14 +1,13 @@
 -- What is read off a reduced list of packets R, and off the reduced form of packets with the identity adjoined.
-use mathlib.Core.Bool.{Bool, true, false, _&&_, not}
+use mathlib.Core.Path.{_≡_}
+use mathlib.Core.Bool.{Bool, _&&_, not, cond}
 use mathlib.Core.List.{List, [], _∷_}
-use Prim.Native.Nat.{ℕ, suc, _+_, _/_, _%_, _^_}
+use Prim.Native.Nat.{ℕ, suc, _+_, _/_, _%_, _^_, _≤_, _<_}
 use lib.Dec.{eqb}
+use Rattle.gf2.specs.Rows.{row}
+use Rattle.gf2.specs.Reduced.{Pivot}
 use Rattle.gf2.specs.Additions.{count}
 use Rattle.images.specs.Packets.{coefficients, payload}
-
-unfoldable pub ifThen : Bool → ℕ → ℕ → ℕ
-ifThen true r s = r
-ifThen false r s = s
 
 -- the pivot of r stands in columns a to e - 1: nothing stands left of column a, something left of column e
 unfoldable pub inside : ℕ → ℕ → ℕ → Bool
@@ -16,15 +15,31 @@ inside a e r = eqb (r % 2 ^ a) 0 && not (eqb (r % 2 ^ e) 0)
 
 -- the first row whose pivot stands there; zero where there is none
 unfoldable pub pivotRow : ℕ → ℕ → List ℕ → ℕ
-unfolding inside ifThen
+unfolding inside
 pivotRow a e [] = 0
-pivotRow a e (r ∷ R) = ifThen (inside a e r) r (pivotRow a e R)
+pivotRow a e (r ∷ R) = cond (inside a e r) r (pivotRow a e R)
 
+-- what it is: row `at` of R, whose pivot stands there, and no row above it has one there
+pub record Found (a e : ℕ) (R : List ℕ) : Type 0 where
+  pub at : ℕ
+  pub column : ℕ
+  pub pivot : Pivot column (row R at)
+  pub from : a ≤ column
+  pub to : column < e
+  pub is : pivotRow a e R ≡ row R at
+  pub first : (j q : ℕ) → j < at → Pivot q (row R j) → a ≤ q → q < e → ⊥
+
+-- no row has its pivot there
+pub record Missing (a e : ℕ) (R : List ℕ) : Type 0 where
+  pub is : pivotRow a e R ≡ 0
+  pub none : (j q : ℕ) → Pivot q (row R j) → a ≤ q → q < e → ⊥
+
+-- some row has its pivot there
 unfoldable pub hasPivot : ℕ → ℕ → List ℕ → Bool
 unfolding pivotRow
 hasPivot a e R = not (eqb (pivotRow a e R) 0)
 
--- a pivot falls in the payload columns
+-- some row has its pivot in the payload
 abbrev pub contradictory : ℕ → ℕ → List ℕ → Bool
 contradictory n p R = hasPivot n (n + p) R
 
@@ -43,19 +58,20 @@ unknownBlock = 0
 
 -- block j as it is shown, and a mark for each block: 1 where it is known
 unfoldable pub shown : ℕ → List ℕ → ℕ → ℕ
-unfolding known content ifThen
-shown n R j = ifThen (known n R j) (content n R j) unknownBlock
+unfolding known content
+shown n R j = cond (known n R j) (content n R j) unknownBlock
 
 unfoldable pub mark : ℕ → List ℕ → ℕ → ℕ
 unfolding known
 mark n R j = count (known n R j)
 
--- how many of the marks are set
+-- the sum of the marks, each 1 or 0: how many are set
 unfoldable pub marked : List ℕ → ℕ
 marked [] = 0
 marked (x ∷ xs) = x + marked xs
 
--- the identity adjoined: right of the payload, the row whose pivot is the first one inside the payload names its packets. Zero where there is none
+-- with the identity adjoined: what stands right of the payload in the row with the leftmost pivot among the payload columns. It names packets; zero where no
+-- pivot stands there
 unfoldable pub named : ℕ → ℕ → List ℕ → ℕ
 unfolding pivotRow
 named n p R = pivotRow n (n + p) R / 2 ^ (n + p)

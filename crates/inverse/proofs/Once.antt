@@ -5,8 +5,8 @@ use mathlib.Core.List.{List}
 use Prim.Native.Nat.{ℕ, _*_}
 use lib.ListN.{length}
 use Rattle.gf2.proofs.Inverse.{one-inverse}
-use Rattle.words.specs.Words.{wordsOf, rowsOf}
-use Rattle.words.proofs.Slices.{Slice, same-slice}
+use Rattle.words.specs.Words.{Slice, wordsOf, rowsOf}
+use Rattle.words.proofs.Slices.{same-slice}
 use Rattle.refusals.specs.declared.Outcome.{Outcome}
 use Rattle.refusals.specs.declared.Outcome.the-variants.{Done, Refused}
 use Rattle.refusals.specs.Checks.{inverseChecks}

@@ -16,7 +16,7 @@ use Rattle.engine.specs.Core.{zeroed}
 abbrev pub Given : ℕ → List ℕ → Outcome → List ℕ → Type 0
 Given n A r result′ = (r ≡ Done) × Inverse n A (rowsOf (wordsOf n) n result′)
 
--- A has no inverse, and the result is as it was
+-- A has no inverse, which is number 9, and the result is as it was
 abbrev pub NoneExists : ℕ → List ℕ → Outcome → List ℕ → List ℕ → Type 0
 NoneExists n A r result result′ = (r ≡ Refused NoInverse) × ((X : List ℕ) → Inverse n A X → ⊥) × (result′ ≡ result)
 

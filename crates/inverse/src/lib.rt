@@ -19,12 +19,14 @@ pub fn invert(
     match o {
         Outcome::Refused(r) => Outcome::Refused(r),
         Outcome::Done => {
+            // its answer tells nothing: past the checks the shapes fit
             beside::reduce(room, m, rows, columns, k);
             let read = readoff::right_half(room, rows, result);
             engine::blank(room, rows * refusals::words(columns + rows));
             match read {
                 Reading::Found => Outcome::Done,
                 Reading::Missing => Outcome::Refused(Refusal::NoInverse),
+                // cannot be: past the checks the shapes fit
                 Reading::Unfit => Outcome::Refused(Refusal::NoInverse),
             }
         }

@@ -6,13 +6,13 @@ use Prim.Native.Nat.{ℕ, _*_}
 use lib.ListN.{length}
 use Rattle.gf2.specs.Reduced.{rank}
 use Rattle.gf2.proofs.Reduced.{one-reduced-form}
-use Rattle.words.specs.Words.{wordsOf, rowsOf}
+use Rattle.words.specs.Words.{Slice, wordsOf, rowsOf}
 use Rattle.refusals.specs.declared.Outcome.{Outcome}
 use Rattle.refusals.specs.declared.Outcome.the-variants.{Done, Refused}
 use Rattle.refusals.specs.Checks.{reductionChecks}
 use Rattle.refusals.proofs.Passed.{reduction-passed}
 use Rattle.engine.specs.Core.{pivotRecord}
-use Rattle.words.proofs.Slices.{Slice, same-slice}
+use Rattle.words.proofs.Slices.{same-slice}
 use Rattle.matrix.specs.declared.Answer.{Answer}
 use Rattle.matrix.specs.Calls.{reducedAnswer, Reduction, byOutcome, reduction}
 

@@ -1,7 +1,7 @@
 -- What the row view and the reduction promise.
 use mathlib.Core.Path.{_≡_}
 use mathlib.Core.List.{List, []}
-use Prim.Native.Nat.{ℕ, _-_, _*_, _^_}
+use Prim.Native.Nat.{ℕ, _*_, _^_}
 use lib.ListN.{length, replicate}
 use Rattle.gf2.specs.Rows.{part}
 use Rattle.gf2.specs.Reduced.{ReducedForm, rank}

@@ -4,8 +4,8 @@ ghost use Rattle.matrix.specs.Calls.{rowView, answerOf, refusedAnswer, r
 use refusals::Outcome;
 use refusals::Refusal;
 
-// what reduction and solving answer: the outcome, the rank, the number of known blocks, the table additions, and the pivot columns, of which the first
-// rank are used; the rest hold 65,535
+// what reduction and solving answer: the outcome; the rank; how many blocks are known, 0 in a reduction; the table additions; and the pivot columns from the
+// top row down, with 65,535 in the places behind them
 pub struct Answer {
     pub outcome: Outcome,
     pub rank: usize,
@@ -14,7 +14,7 @@ pub struct Answer {
     pub pivots: [u16; 512],
 }
 
-// row i as that part of the caller's own buffer; the empty part where the call refuses
+// the words of row i, lent on from the caller's matrix; no words where the call refuses
 pub fn row_view(m: &[u64], rows: usize, columns: usize, i: usize) -> &[u64]
     ensures { λ x. ⌜ now x ≡ rowView rows columns i (now (m .entry)) ⌝ }
 {

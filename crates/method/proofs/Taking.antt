@@ -13,9 +13,14 @@ use Rattle.gf2.specs.Reduced.{Pivot}
 use Rattle.gf2.proofs.Bits.{bit-of-zero, xor-back}
 use Rattle.gf2.proofs.Space.{pick-each, same-sym, same-trans, same-rows, space-row, space-xor, space-zero, swap-rows}
 use Rattle.gf2.proofs.Products.{map-row}
-use Rattle.method.specs.Stage.{Pending, clearBy}
+use Rattle.method.specs.Stage.{Pending}
 use Rattle.method.proofs.Upto.{upto-tail, pivot-stays, pivot-here}
 use Rattle.method.proofs.Pending.{part-has, part-sub, pending-pivot, pending-same}
+
+-- column x cleared by row p in all other rows
+unfoldable pub clearBy : ℕ → ℕ → List ℕ → List ℕ
+unfolding pick
+clearBy x p L = set (map (λ v. v ⊕ pick (bit x v) (row L p)) L) p (row L p)
 
 -- ---- two rows exchanged
 

@@ -1,4 +1,4 @@
--- The reflected Gray code: from one number to the next, its code changes in one digit.
+-- The reflected Gray code: from one number to the next, its code changes in one digit. No public promise cites it.
 use Prim.Native.Nat.{ℕ, _/_}
 use Rattle.gf2.specs.Rows.{_⊕_}
 

@@ -1,10 +1,10 @@
--- How far an elimination has come: which columns are done, and, while a window's pivots are sought, what clearing its other rows will give.
+-- How far an elimination has come: which columns are done, and, while a window's pivots are sought, what clearing its other rows will give. No public
+-- promise cites any of it.
 use mathlib.Core.Path.{_≡_}
 use mathlib.Core.Logic.{_≢_}
-use mathlib.Core.List.{List, map}
+use mathlib.Core.List.{List}
 use Prim.Native.Nat.{ℕ, _+_, _≤_, _<_}
-use lib.ListN.{set}
-use Rattle.gf2.specs.Rows.{bit, _⊕_, row, part, pick, RowSpace}
+use Rattle.gf2.specs.Rows.{bit, _⊕_, row, part, RowSpace}
 use Rattle.gf2.specs.Reduced.{Pivot}
 
 -- Columns below c are done: the first r rows have their pivots there, rising, each alone in its column; no other row has a one there.
@@ -20,8 +20,3 @@ pub record Pending (x r s : ℕ) (M F : List ℕ) : Type 0 where
   pub upto : Upto x (r + s) F
   pub mine : (i : ℕ) → r ≤ i → i < r + s → row F i ≡ row M i
   pub diff : (i : ℕ) → RowSpace (part r s F) (row M i ⊕ row F i)
-
--- column x cleared by row p in all other rows
-unfoldable pub clearBy : ℕ → ℕ → List ℕ → List ℕ
-unfolding pick
-clearBy x p L = set (map (λ v. v ⊕ pick (bit x v) (row L p)) L) p (row L p)

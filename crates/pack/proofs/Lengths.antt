@@ -11,7 +11,6 @@ use Rattle.wire.specs.Bytes.{bytesOf}
 use Rattle.wire.proofs.Bytes.{length-bytes}
 use Rattle.wire.proofs.Orders.{length-words-bytes}
 use Rattle.bundle.specs.Bundle.{Entry, bodyWords, headBytes}
-use Rattle.bundle.specs.Answers.{countEntries}
 use Rattle.pack.specs.Encode.{headOf, contentsOf, bodyOf, bodiesOf, encode}
 use Rattle.pack.specs.Writing.{given, allWords, bundleBytes}
 
@@ -21,8 +20,8 @@ length-head k r c p =
     length-append (bytesOf 2 k) _
     ∙ ap₂ _+_ (length-bytes 2 k) (length-append (bytesOf 2 r) _ ∙ ap₂ _+_ (length-bytes 2 r) (length-append (bytesOf 2 c) _ ∙ ap₂ _+_ (length-bytes 2 c) (length-bytes 4 p)))
 
-pub length-contents : (p : ℕ) (es : List Entry) → length (contentsOf p es) ≡ 10 * countEntries es
-unfolding contentsOf countEntries
+pub length-contents : (p : ℕ) (es : List Entry) → length (contentsOf p es) ≡ 10 * length es
+unfolding contentsOf
 length-contents p [] = refl
 length-contents p (e ∷ es) =
     length-append (headOf (e .kind) (e .rows) (e .columns) p) _
@@ -36,8 +35,8 @@ length-body e h =
 
 -- ---- of the entries given
 
-pub count-given : (ks rs cs ws : List ℕ) → length rs ≡ length ks → length cs ≡ length ks → countEntries (given ks rs cs ws) ≡ length ks
-unfolding given countEntries
+pub count-given : (ks rs cs ws : List ℕ) → length rs ≡ length ks → length cs ≡ length ks → length (given ks rs cs ws) ≡ length ks
+unfolding given
 count-given [] rs cs ws er ec = refl
 count-given (k ∷ ks) [] cs ws er ec = absurd (omega arith)
 count-given (k ∷ ks) (r ∷ rs) [] ws er ec = absurd (omega arith)
@@ -61,7 +60,7 @@ pub length-encode : (ks rs cs ws : List ℕ) → length rs ≡ length ks → len
 unfolding encode
 length-encode ks rs cs ws er ec ew =
     let es : List Entry = given ks rs cs ws in
-    let n : ℕ = countEntries es in
+    let n : ℕ = length es in
     length-append (bytesOf 2 n) _
     ∙ ap₂ _+_ (length-bytes 2 n)
     (length-append (contentsOf (headBytes n) es) (bodiesOf es)

@@ -1,37 +1,22 @@
--- What passing the writer's checks means.
+-- The writer's checks refuse nothing exactly if what passing means holds; and each of their answers.
 use mathlib.Core.Path.{_≡_, refl, sym, ap, _∙_}
 use mathlib.Core.Bool.{Bool, true, false, not}
 use mathlib.Core.List.{List, [], _∷_, _++_}
-use Prim.Native.Nat.{ℕ, _<_, _≤_}
+use Prim.Native.Nat.{ℕ, _≤_}
 use native.Mathlib.Omega.{arith}
 use lib.Dec.{ltb, eqb}
 use lib.ListN.{length, drop}
-use borrow.Author.Tests.{ltb-false, eqb-false, le-ltb, eq-eqb, ne-eqb}
+use borrow.Author.Tests.{ltb-false, eqb-false, le-ltb, eq-eqb, ne-eqb, not-false}
 use Rattle.refusals.specs.declared.Outcome.{Outcome}
 use Rattle.refusals.specs.declared.Refusal.{Refusal}
 use Rattle.refusals.specs.declared.Refusal.the-variants.{WrongLength, DirtyPadding, ShortOutput, BundleOver}
 use Rattle.refusals.specs.declared.Outcome.the-variants.{Done, Refused}
 use Rattle.refusals.specs.Outcome.{refuseIf, _andThen_}
-use Rattle.refusals.proofs.Passed.{if-done, done-if, then-done, done-then, not-false, same-done, done-same}
+use Rattle.refusals.proofs.Passed.{pos, if-done, done-if, then-done, done-then, same-done, done-same}
 use Rattle.bundle.specs.Bundle.{badShape}
-use Rattle.pack.specs.Writing.{given, shapesChecks, allWords, allNarrow, bundleBytes, roomChecks, writeChecks, writtenBy, outputBy}
+use Rattle.pack.specs.Writing.{given, shapesChecks, allWords, allNarrow, bundleBytes, restChecks, writeChecks, Writable, writtenBy, outputBy}
 use Rattle.pack.specs.declared.Written.the-variants as written
-use Rattle.pack.specs.Steps.{anyKind, Agreed}
-
--- past all the checks
-pub record Writable (rule : ℕ → Outcome) (ks rs cs ws : List ℕ) (room : ℕ) : Type 0 where
-  pub rows-too : length rs ≡ length ks
-  pub columns-too : length cs ≡ length ks
-  pub any : 0 < length ks
-  pub few : length ks ≤ 64
-  pub shapes : shapesChecks rule ks rs cs ≡ Done
-  pub words-fit : allWords rs cs ≡ length ws
-  pub clean : allNarrow (given ks rs cs ws) ≡ true
-  pub short : bundleBytes (length ks) (length ws) ≤ 65535
-  pub fits : bundleBytes (length ks) (length ws) ≤ room
-
-pos : (n : ℕ) → (n ≡ 0 → ⊥) → 0 < n
-pos n h = omega arith
+use Rattle.pack.specs.Steps.{anyKind, Checked}
 
 -- shapes that pass under a rule pass whatever the kinds
 pub shapes-any : (rule : ℕ → Outcome) (ks rs cs : List ℕ) → shapesChecks rule ks rs cs ≡ Done → shapesChecks anyKind ks rs cs ≡ Done
@@ -44,11 +29,11 @@ shapes-any rule (k ∷ ks) (r ∷ rs) (c ∷ cs) e =
     done-then (then-done (rule k) (badShape r c) (s .0) .1) (shapes-any rule ks rs cs (s .1))
 
 module _ (rule : ℕ → Outcome) (ks rs cs ws : List ℕ) (room : ℕ) where
-  pub agreed : Writable rule ks rs cs ws room → Agreed ks rs cs ws
-  agreed w = record { rows-too = w .rows-too; columns-too = w .columns-too; few = w .few; shapes = shapes-any rule ks rs cs (w .shapes); words-fit = w .words-fit }
+  pub checked : Writable rule ks rs cs ws room → Checked ks rs cs ws
+  checked w = record { rows-too = w .rows-too; columns-too = w .columns-too; few = w .few; shapes = shapes-any rule ks rs cs (w .shapes); words-fit = w .words-fit }
 
   pub writable : writeChecks rule ks rs cs ws room ≡ Done → Writable rule ks rs cs ws room
-  unfolding writeChecks roomChecks
+  unfolding writeChecks restChecks
   writable e =
       let S : ℕ = bundleBytes (length ks) (length ws) in
       let n : Bool = allNarrow (given ks rs cs ws) in
@@ -57,7 +42,7 @@ module _ (rule : ℕ → Outcome) (ks rs cs ws : List ℕ) (room : ℕ) where
       let c₃ : Outcome = refuseIf (eqb (length ks) 0) _ in
       let c₄ : Outcome = refuseIf (ltb 64 (length ks)) _ in
       let c₅ : Outcome = shapesChecks rule ks rs cs in
-      let t₅ = then-done (c₁ andThen c₂ andThen c₃ andThen c₄ andThen c₅) (roomChecks ks rs cs ws room) e in
+      let t₅ = then-done (c₁ andThen c₂ andThen c₃ andThen c₄ andThen c₅) (restChecks ks rs cs ws room) e in
       let t₄ = then-done (c₁ andThen c₂ andThen c₃ andThen c₄) c₅ (t₅ .0) in
       let t₃ = then-done (c₁ andThen c₂ andThen c₃) c₄ (t₄ .0) in
       let t₂ = then-done (c₁ andThen c₂) c₃ (t₃ .0) in
@@ -72,7 +57,7 @@ module _ (rule : ℕ → Outcome) (ks rs cs ws : List ℕ) (room : ℕ) where
       record {
         rows-too = same-done _ (length rs) (length ks) (t₁ .0);
         columns-too = same-done _ (length cs) (length ks) (t₁ .1);
-        any = pos (length ks) (eqb-false (length ks) 0 (if-done (eqb (length ks) 0) _ (t₂ .1)));
+        any = pos (eqb-false (length ks) 0 (if-done (eqb (length ks) 0) _ (t₂ .1)));
         few = ltb-false 64 (length ks) (if-done (ltb 64 (length ks)) _ (t₃ .1));
         shapes = t₄ .1;
         words-fit = sym (same-done _ (length ws) (allWords rs cs) (u₁ .0));
@@ -85,7 +70,7 @@ module _ (rule : ℕ → Outcome) (ks rs cs ws : List ℕ) (room : ℕ) where
   write-short o e z = writable (sym e ∙ z) .short
 
   pub write-passes : Writable rule ks rs cs ws room → writeChecks rule ks rs cs ws room ≡ Done
-  unfolding writeChecks roomChecks
+  unfolding writeChecks restChecks
   write-passes w =
       let S : ℕ = bundleBytes (length ks) (length ws) in
       done-then
@@ -102,22 +87,22 @@ module _ (rule : ℕ → Outcome) (ks rs cs ws : List ℕ) (room : ℕ) where
 -- ---- answer by answer: past the checks before it, a check decides
 
 module _ (ks rs cs ws : List ℕ) (room t : ℕ) (et : t ≡ allWords rs cs) where
-  pub room-words : (length ws ≡ t → ⊥) → Refused WrongLength ≡ roomChecks ks rs cs ws room
-  unfolding roomChecks
-  room-words ne = simp (ne-eqb (length ws) (allWords rs cs) (λ e. ne (e ∙ sym et)))
+  pub rest-words : (length ws ≡ t → ⊥) → Refused WrongLength ≡ restChecks ks rs cs ws room
+  unfolding restChecks
+  rest-words ne = simp (ne-eqb (length ws) (allWords rs cs) (λ e. ne (e ∙ sym et)))
 
-  pub room-padding : length ws ≡ t → false ≡ allNarrow (given ks rs cs ws) → Refused DirtyPadding ≡ roomChecks ks rs cs ws room
-  unfolding roomChecks
-  room-padding e z = simp (eq-eqb (length ws) (allWords rs cs) (e ∙ et), ← z)
+  pub rest-padding : length ws ≡ t → false ≡ allNarrow (given ks rs cs ws) → Refused DirtyPadding ≡ restChecks ks rs cs ws room
+  unfolding restChecks
+  rest-padding e z = simp (eq-eqb (length ws) (allWords rs cs) (e ∙ et), ← z)
 
-  pub room-rest : length ws ≡ t → true ≡ allNarrow (given ks rs cs ws)
+  pub rest-room : length ws ≡ t → true ≡ allNarrow (given ks rs cs ws)
       → refuseIf (ltb 65535 (bundleBytes (length ks) (length ws))) BundleOver andThen refuseIf (ltb room (bundleBytes (length ks) (length ws))) ShortOutput
-      ≡ roomChecks ks rs cs ws room
-  unfolding roomChecks
-  room-rest e z = simp (eq-eqb (length ws) (allWords rs cs) (e ∙ et), ← z)
+      ≡ restChecks ks rs cs ws room
+  unfolding restChecks
+  rest-room e z = simp (eq-eqb (length ws) (allWords rs cs) (e ∙ et), ← z)
 
 pub write-rest : (rule : ℕ → Outcome) (ks rs cs ws : List ℕ) (room : ℕ) → length rs ≡ length ks → length cs ≡ length ks → (length ks ≡ 0 → ⊥) → length ks ≤ 64
-    → shapesChecks rule ks rs cs andThen roomChecks ks rs cs ws room ≡ writeChecks rule ks rs cs ws room
+    → shapesChecks rule ks rs cs andThen restChecks ks rs cs ws room ≡ writeChecks rule ks rs cs ws room
 unfolding writeChecks
 write-rest rule ks rs cs ws room er ec ne few =
     simp (eq-eqb (length rs) (length ks) er, eq-eqb (length cs) (length ks) ec, ne-eqb (length ks) 0 ne, le-ltb 64 (length ks) few)

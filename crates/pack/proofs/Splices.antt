@@ -11,7 +11,6 @@ use Rattle.wire.specs.Bytes.{bytesOf}
 use Rattle.wire.specs.Kinds.{order, bytesOfWords}
 use Rattle.wire.proofs.Bytes.{length-bytes}
 use Rattle.bundle.specs.Bundle.{Entry, headBytes}
-use Rattle.bundle.specs.Answers.{countEntries}
 use Rattle.pack.specs.Encode.{headOf, contentsOf, bodiesOf, encode}
 use Rattle.pack.specs.Steps.{splice}
 use Rattle.pack.proofs.Lengths.{length-contents}
@@ -153,7 +152,7 @@ front : (xs out : List ℕ) → xs ++ drop (length xs) out ≡ splice 0 xs out
 unfolding splice
 front xs out = ap (λ (k : ℕ). xs ++ drop k out) (sym (zero-add (length xs)))
 
-pub whole : (es : List Entry) (n : ℕ) (out : List ℕ) → countEntries es ≡ n → headBytes n ≤ length out
+pub whole : (es : List Entry) (n : ℕ) (out : List ℕ) → length es ≡ n → headBytes n ≤ length out
     → splice (headBytes n) (bodiesOf es) (splice 2 (contentsOf (headBytes n) es) (splice 0 (bytesOf 2 n) out)) ≡ encode es ++ drop (length (encode es)) out
 unfolding encode
 whole es n out en h =

@@ -1,30 +1,31 @@
 -- The loops over the entries given: each definition on the entries that are left, one entry after the other.
-use mathlib.Core.Path.{_≡_, refl, sym, ap, ap₂, _∙_, subst}
+use mathlib.Core.Path.{_≡_, refl, sym, ap, ap₂, _∙_}
 use mathlib.Core.Bool.{Bool, true, false, _&&_}
 use mathlib.Core.List.{List, [], _∷_, _++_}
 use Prim.Native.Nat.{ℕ, _+_, _-_, _*_, _<_, _≤_}
 use native.Mathlib.Nat.{zero-add, mul-le-mul-right}
 use native.Mathlib.Omega.{arith}
 use lib.ListN.{length, take, drop, getD, length-drop, drop-of-length-le}
-use lib.Seq.{drop-drop, length-take-le, getD-take, ext-getD}
-use Rattle.words.specs.Words.{wordsOf, Fit, value, rowsOf}
-use Rattle.words.proofs.Parts.{part-same}
+use lib.Seq.{drop-drop, length-take-le}
+use Rattle.words.specs.Words.{wordsOf, Fit, rowsOf}
 use Rattle.words.proofs.Value.{fit-drop}
-use Rattle.words.proofs.Rows.{row-ends, length-rows, getD-rows, rows-take}
+use Rattle.words.proofs.Rows.{rows-take}
 use Rattle.words.proofs.Flat.{flat-rows}
 use Rattle.wire.specs.Kinds.{bytesOfWords}
 use Rattle.wire.proofs.Orders.{length-words-bytes}
 use Rattle.refusals.specs.declared.Outcome.{Outcome}
-use Rattle.refusals.specs.declared.Outcome.the-variants.{Done, Refused}
+use Rattle.refusals.specs.declared.Outcome.the-variants.{Done}
 use Rattle.refusals.specs.Outcome.{outcomeNumber, _andThen_}
 use Rattle.refusals.specs.Checks.{narrow, holdsRows}
 use Rattle.refusals.proofs.Padding.{holds-narrow}
 use Rattle.refusals.proofs.Passed.{then-done, number-zero}
-use Rattle.bundle.specs.Bundle.{Entry, bodyWords, badShape}
-use Rattle.bundle.proofs.Passing.{Shaped, shaped}
+use Rattle.bundle.specs.Bundle.{Entry, bodyWords, badShape, Shaped}
+use Rattle.bundle.proofs.Bodies.{body-same}
+use Rattle.bundle.proofs.Steps.{then-stops}
+use Rattle.bundle.proofs.Passing.{shaped}
 use Rattle.pack.specs.Encode.{headOf, contentsOf, bodyOf, bodiesOf}
 use Rattle.pack.specs.Writing.{given, shapesChecks, allWords, allNarrow}
-use Rattle.pack.specs.Steps.{splice, anyKind, Agreed}
+use Rattle.pack.specs.Steps.{splice, anyKind, Checked}
 use Rattle.pack.proofs.Lengths.{length-head}
 use Rattle.pack.proofs.Splices.{splice-none, splice-append, drop-next}
 
@@ -32,10 +33,6 @@ use Rattle.pack.proofs.Splices.{splice-none, splice-append, drop-next}
 
 pub body-small : (r w : ℕ) → r ≤ 65535 → w ≤ 1024 → r * w ≤ 67107840
 body-small r w hr hw = omega (arith, mul-le-mul-right w hr)
-
-pub body-same : (r c : ℕ) {w : ℕ} → w ≡ wordsOf c → r * w ≡ bodyWords r c
-unfolding bodyWords
-body-same r c e = ap (λ (x : ℕ). r * x) e
 
 -- an entry whose words begin at word a of those given
 pub record Met (ws : List ℕ) (a r c : ℕ) : Type 0 where
@@ -64,10 +61,6 @@ none l i h = drop-of-length-le l {i = i} h
 next : (l : List ℕ) (i x : ℕ) → i < length l → x ≡ getD l i 0 → drop i l ≡ x ∷ drop (i + 1) l
 next l i x h e = drop-next l i h ∙ ap (λ (y : ℕ). y ∷ drop (i + 1) l) (sym e)
 
-pub refused-first : (o p : Outcome) → (outcomeNumber o ≡ 0 → ⊥) → o ≡ o andThen p
-refused-first Done p ne = absurd (ne refl)
-refused-first (Refused r) p ne = refl
-
 module _ (rule : ℕ → Outcome) (ks rs cs : List ℕ) (i : ℕ) where
   abbrev S : Outcome
   S = shapesChecks rule (drop i ks) (drop i rs) (drop i cs)
@@ -94,7 +87,7 @@ module _ (rule : ℕ → Outcome) (ks rs cs : List ℕ) (i : ℕ) where
       shapes-turn z = whole ∙ ap (λ (x : Outcome). x andThen S₁) (number-zero o (sym en ∙ z))
 
       pub shapes-stop : (n ≡ 0 → ⊥) → o ≡ v
-      shapes-stop ne = refused-first o S₁ (λ z. ne (en ∙ z)) ∙ sym whole
+      shapes-stop ne = then-stops o S₁ (λ z. ne (en ∙ z)) ∙ sym whole
 
 -- ---- the words of all bodies
 
@@ -119,7 +112,7 @@ pub record Going (ks rs cs ws : List ℕ) (i a : ℕ) : Type 0 where
   pub shapes : shapesChecks anyKind (drop i ks) (drop i rs) (drop i cs) ≡ Done
   pub left : a + allWords (drop i rs) (drop i cs) ≡ length ws
 
-pub going-start : (ks rs cs ws : List ℕ) → Agreed ks rs cs ws → Going ks rs cs ws 0 0
+pub going-start : (ks rs cs ws : List ℕ) → Checked ks rs cs ws → Going ks rs cs ws 0 0
 going-start ks rs cs ws g = record { upto = omega arith; shapes = g .shapes; left = zero-add (allWords rs cs) ∙ g .words-fit }
 
 -- the entries still to come
@@ -133,7 +126,7 @@ rest-end : (ks rs cs ws : List ℕ) (i a : ℕ) → length ks ≤ i → rest ks 
 unfolding given
 rest-end ks rs cs ws i a h = ap (λ (x : List ℕ). given x (drop i rs) (drop i cs) (drop a ws)) (none ks i h)
 
-module _ {ks rs cs ws : List ℕ} {i a : ℕ} (g : Agreed ks rs cs ws) (h : i < length ks) (o : Going ks rs cs ws i a) {k r c : ℕ} (ek : k ≡ getD ks i 0) (er : r ≡ getD rs i 0) (ec : c ≡ getD cs i 0) where
+module _ {ks rs cs ws : List ℕ} {i a : ℕ} (g : Checked ks rs cs ws) (h : i < length ks) (o : Going ks rs cs ws i a) {k r c : ℕ} (ek : k ≡ getD ks i 0) (er : r ≡ getD rs i 0) (ec : c ≡ getD cs i 0) where
   step : (badShape r c ≡ Done) × (shapesChecks anyKind (drop (i + 1) ks) (drop (i + 1) rs) (drop (i + 1) cs) ≡ Done)
   step = then-done (badShape r c) _ (sym (shapes-step anyKind ks rs cs i (g .rows-too) (g .columns-too) h ek er ec) ∙ o .shapes)
 

@@ -1,11 +1,11 @@
 -- The bytes of a bundle: the count, ten bytes for each entry, then the bodies in order.
 use mathlib.Core.List.{List, [], _∷_, _++_}
 use Prim.Native.Nat.{ℕ, _+_, _*_}
+use lib.ListN.{length}
 use Rattle.words.specs.Words.{wordsOf, flat}
 use Rattle.wire.specs.Bytes.{bytesOf}
 use Rattle.wire.specs.Kinds.{bytesOfWords}
 use Rattle.bundle.specs.Bundle.{Entry, bodyWords, headBytes}
-use Rattle.bundle.specs.Answers.{countEntries}
 
 -- an entry's ten bytes; its body begins at byte p
 unfoldable pub headOf : ℕ → ℕ → ℕ → ℕ → List ℕ
@@ -25,4 +25,4 @@ bodiesOf [] = []
 bodiesOf (e ∷ es) = bodyOf e ++ bodiesOf es
 
 unfoldable pub encode : List Entry → List ℕ
-encode es = bytesOf 2 (countEntries es) ++ (contentsOf (headBytes (countEntries es)) es ++ bodiesOf es)
+encode es = bytesOf 2 (length es) ++ (contentsOf (headBytes (length es)) es ++ bodiesOf es)

@@ -1,4 +1,4 @@
--- What the steps of writing do, one by one.
+-- What the steps of writing do, one by one. No public promise cites any of it.
 use mathlib.Core.Path.{_≡_}
 use mathlib.Core.List.{List, _++_}
 use Prim.Native.Nat.{ℕ, _+_, _≤_}
@@ -16,7 +16,7 @@ abbrev pub anyKind : ℕ → Outcome
 anyKind kind = Done
 
 -- what the checks leave for the loops that write
-pub record Agreed (ks rs cs ws : List ℕ) : Type 0 where
+pub record Checked (ks rs cs ws : List ℕ) : Type 0 where
   pub rows-too : length rs ≡ length ks
   pub columns-too : length cs ≡ length ks
   pub few : length ks ≤ 64

@@ -1,7 +1,8 @@
 -- What the writer writes and answers.
-use mathlib.Core.Bool.{Bool, true, false, not, _&&_}
+use mathlib.Core.Path.{_≡_}
+use mathlib.Core.Bool.{Bool, true, not, _&&_}
 use mathlib.Core.List.{List, [], _∷_, _++_}
-use Prim.Native.Nat.{ℕ, _+_, _*_}
+use Prim.Native.Nat.{ℕ, _+_, _*_, _<_, _≤_}
 use lib.Dec.{eqb, ltb}
 use lib.ListN.{length, drop}
 use Rattle.words.specs.Words.{wordsOf, rowsOf}
@@ -11,6 +12,7 @@ use Rattle.refusals.specs.declared.Outcome.the-variants as outcome
 use Rattle.refusals.specs.Outcome.{numberOf, refuseIf, _andThen_}
 use Rattle.refusals.specs.Checks.{narrow}
 use Rattle.bundle.specs.Bundle.{Entry, bodyWords, headBytes, badShape}
+use Rattle.pack.specs.Encode.{encode}
 use Rattle.pack.specs.declared.Written.{Written}
 use Rattle.pack.specs.declared.Written.the-variants.{Bytes, Refused}
 
@@ -51,17 +53,32 @@ allNarrow (e ∷ es) = narrow (e .columns) (e .matrix) && allNarrow es
 abbrev pub bundleBytes : ℕ → ℕ → ℕ
 bundleBytes n m = headBytes n + 8 * m
 
--- past kinds and shapes: the words of all bodies together, their padding, the bundle's length, the output's room
-unfoldable pub roomChecks : List ℕ → List ℕ → List ℕ → List ℕ → ℕ → Outcome
-roomChecks ks rs cs ws room =
+-- past kinds and shapes: the words of all bodies together (4), their padding (5), the bundle's length (29), the output's room (28)
+unfoldable pub restChecks : List ℕ → List ℕ → List ℕ → List ℕ → ℕ → Outcome
+restChecks ks rs cs ws room =
     refuseIf (not (eqb (length ws) (allWords rs cs))) WrongLength andThen refuseIf (not (allNarrow (given ks rs cs ws))) DirtyPadding
     andThen refuseIf (ltb 65535 (bundleBytes (length ks) (length ws))) BundleOver andThen refuseIf (ltb room (bundleBytes (length ks) (length ws))) ShortOutput
 
+-- lists of one length (13), from 1 to 64 entries (21), for each entry 23 and 24, then the rest
 unfoldable pub writeChecks : (ℕ → Outcome) → List ℕ → List ℕ → List ℕ → List ℕ → ℕ → Outcome
 writeChecks rule ks rs cs ws room =
     refuseIf (not (eqb (length rs) (length ks))) WrongBuffer andThen refuseIf (not (eqb (length cs) (length ks))) WrongBuffer
     andThen refuseIf (eqb (length ks) 0) EntryCount andThen refuseIf (ltb 64 (length ks)) EntryCount
-    andThen shapesChecks rule ks rs cs andThen roomChecks ks rs cs ws room
+    andThen shapesChecks rule ks rs cs andThen restChecks ks rs cs ws room
+
+-- ---- what passing means
+
+-- the lists and words can be written as a bundle, in that much room
+pub record Writable (rule : ℕ → Outcome) (ks rs cs ws : List ℕ) (room : ℕ) : Type 0 where
+  pub rows-too : length rs ≡ length ks
+  pub columns-too : length cs ≡ length ks
+  pub any : 0 < length ks
+  pub few : length ks ≤ 64
+  pub shapes : shapesChecks rule ks rs cs ≡ outcome.Done
+  pub words-fit : allWords rs cs ≡ length ws
+  pub clean : allNarrow (given ks rs cs ws) ≡ true
+  pub short : bundleBytes (length ks) (length ws) ≤ 65535
+  pub fits : bundleBytes (length ks) (length ws) ≤ room
 
 -- ---- what is answered, and what the output then holds
 
@@ -73,3 +90,10 @@ writtenBy (outcome.Refused r) n = Refused r
 unfoldable pub outputBy : Outcome → List ℕ → List ℕ → List ℕ
 outputBy outcome.Done b out = b ++ drop (length b) out
 outputBy (outcome.Refused r) b out = out
+
+-- the writer's answer, and the output, under a rule for kinds
+abbrev pub written : (ℕ → Outcome) → List ℕ → List ℕ → List ℕ → List ℕ → ℕ → Written
+written rule ks rs cs ws room = writtenBy (writeChecks rule ks rs cs ws room) (bundleBytes (length ks) (length ws))
+
+abbrev pub output : (ℕ → Outcome) → List ℕ → List ℕ → List ℕ → List ℕ → List ℕ → List ℕ
+output rule ks rs cs ws out = outputBy (writeChecks rule ks rs cs ws (length out)) (encode (given ks rs cs ws)) out

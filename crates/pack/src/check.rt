@@ -1,16 +1,17 @@
 // The writer's checks, in their order.
 ghost use mathlib.Core.Path.{_≡_};
-ghost use Prim.Native.Nat.{_+_, _*_, _≤_, _<_};
-ghost use lib.ListN.{length, take, drop};
+ghost use Prim.Native.Nat.{_+_, _≤_, _<_};
+ghost use lib.ListN.{length, drop};
 ghost use Rattle.refusals.specs.declared.Outcome.the-variants.{Done};
 ghost use Rattle.refusals.specs.Checks.{narrow};
 ghost use Rattle.words.specs.Words.{wordsOf, rowsOf};
 ghost use Rattle.bundle.specs.Bundle.{bodyWords, kindRule};
-ghost use Rattle.pack.specs.Writing.{given, shapesChecks, allWords, allNarrow, writeChecks, roomChecks};
-ghost use Rattle.pack.specs.Steps.{anyKind, Agreed};
+ghost use Rattle.pack.specs.Writing.{given, shapesChecks, allWords, allNarrow, writeChecks, restChecks};
+ghost use Rattle.pack.specs.Steps.{anyKind, Checked};
 use refusals::Outcome;
 use refusals::Refusal;
 
+// a cast by itself: the caller then owes no fact but the index
 pub(crate) fn wide(x: u16) -> usize
     ensures { λ r. ⌜ (r ≡ x) × (r ≤ 65535) ⌝ }
 {
@@ -33,14 +34,14 @@ fn shapes(two: Outcome, kinds: &[u16], rows: &[u16], columns: &[u16]) -> Outcome
     Outcome::Done
 }
 
-// the words of a body, whatever its rows and columns
+// the words of a body, whatever its rows and columns: at most 65,535 rows of 1,024 words
 fn body_words(rows: u16, columns: u16) -> usize
     ensures { λ r. ⌜ (r ≡ bodyWords rows columns) × (r ≤ 67107840) ⌝ }
 {
     wide(rows) * refusals::words(wide(columns))
 }
 
-// the words of all bodies
+// the words of all bodies: at most 64 times as many
 fn all_words(rows: &[u16], columns: &[u16]) -> usize
     requires { ⌜ (length (now columns) ≡ length (now rows)) × (length (now rows) ≤ 64) ⌝ }
     ensures { λ r. ⌜ (r ≡ allWords (now (rows .entry)) (now (columns .entry))) × (r ≤ 4294901760) ⌝ }
@@ -63,9 +64,9 @@ fn part_narrow(words: &[u64], a: usize, rows: usize, columns: usize) -> bool
     refusals::holds(&words[a..e], rows, columns)
 }
 
-// whether no row of any entry has one
+// the same of every entry
 fn all_narrow(kinds: &[u16], rows: &[u16], columns: &[u16], words: &[u64]) -> bool
-    requires { ⌜ Agreed (now kinds) (now rows) (now columns) (now words) ⌝ }
+    requires { ⌜ Checked (now kinds) (now rows) (now columns) (now words) ⌝ }
     ensures { λ r. ⌜ r ≡ allNarrow (given (now (kinds .entry)) (now (rows .entry)) (now (columns .entry)) (now (words .entry))) ⌝ }
 {
     let mut a = 0;
@@ -86,7 +87,7 @@ fn all_narrow(kinds: &[u16], rows: &[u16], columns: &[u16], words: &[u64]) -> bo
 // past kinds and shapes: the words, their padding, the bundle's length, the output's room
 fn room_for(kinds: &[u16], rows: &[u16], columns: &[u16], words: &[u64], room: usize) -> Outcome
     requires { ⌜ (length (now rows) ≡ length (now kinds)) × (length (now columns) ≡ length (now kinds)) × (length (now kinds) ≤ 64) × (shapesChecks anyKind (now kinds) (now rows) (now columns) ≡ Done) ⌝ }
-    ensures { λ o. ⌜ o ≡ roomChecks (now (kinds .entry)) (now (rows .entry)) (now (columns .entry)) (now (words .entry)) room ⌝ }
+    ensures { λ o. ⌜ o ≡ restChecks (now (kinds .entry)) (now (rows .entry)) (now (columns .entry)) (now (words .entry)) room ⌝ }
 {
     let t = all_words(rows, columns);
     if words.len() != t {
@@ -105,6 +106,7 @@ fn room_for(kinds: &[u16], rows: &[u16], columns: &[u16], words: &[u64], room: u
     Outcome::Refused(Refusal::DirtyPadding)
 }
 
+// lists of one length, how many entries, their kinds and shapes, then the rest
 pub(crate) fn all(
     two: Outcome,
     kinds: &[u16],

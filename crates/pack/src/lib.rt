@@ -5,8 +5,7 @@ mod put;
 ghost use mathlib.Core.Path.{_≡_};
 ghost use lib.ListN.{length};
 ghost use Rattle.bundle.specs.Bundle.{bothKinds};
-ghost use Rattle.pack.specs.Encode.{encode};
-ghost use Rattle.pack.specs.Writing.{writtenNumber, given, bundleBytes, writeChecks, writtenBy, outputBy};
+ghost use Rattle.pack.specs.Writing.{writtenNumber, written, output};
 use refusals::Outcome;
 use refusals::Refusal;
 
@@ -29,7 +28,7 @@ impl Written {
 
 // writes the bundle of the entries given, whose words are in the order of kind 1; answers its length in bytes
 pub fn write(kinds: &[u16], rows: &[u16], columns: &[u16], words: &[u64], out: &mut [u8]) -> Written
-    ensures { λ r. ⌜ (r ≡ writtenBy (writeChecks bothKinds (now (kinds .entry)) (now (rows .entry)) (now (columns .entry)) (now (words .entry)) (length (now (out .entry)))) (bundleBytes (length (now (kinds .entry))) (length (now (words .entry))))) × (now (out .exit) ≡ outputBy (writeChecks bothKinds (now (kinds .entry)) (now (rows .entry)) (now (columns .entry)) (now (words .entry)) (length (now (out .entry)))) (encode (given (now (kinds .entry)) (now (rows .entry)) (now (columns .entry)) (now (words .entry)))) (now (out .entry))) ⌝ }
+    ensures { λ r. ⌜ (r ≡ written bothKinds (now (kinds .entry)) (now (rows .entry)) (now (columns .entry)) (now (words .entry)) (length (now (out .entry)))) × (now (out .exit) ≡ output bothKinds (now (kinds .entry)) (now (rows .entry)) (now (columns .entry)) (now (words .entry)) (now (out .entry))) ⌝ }
 {
     let o = check::all(Outcome::Done, kinds, rows, columns, words, out.len());
     match o {

@@ -8,7 +8,7 @@ ghost use Rattle.wire.specs.Kinds.{bytesOfWords};
 ghost use Rattle.bundle.specs.Bundle.{headBytes};
 ghost use Rattle.pack.specs.Encode.{headOf, contentsOf, bodiesOf, encode};
 ghost use Rattle.pack.specs.Writing.{given, bundleBytes};
-ghost use Rattle.pack.specs.Steps.{splice, Agreed};
+ghost use Rattle.pack.specs.Steps.{splice, Checked};
 use crate::check::wide;
 
 fn low(x: u64) -> u8
@@ -62,7 +62,7 @@ fn body(out: &mut [u8], at: usize, kind: usize, words: &[u64], a: usize, n: usiz
 }
 
 fn contents(out: &mut [u8], kinds: &[u16], rows: &[u16], columns: &[u16], words: &[u64])
-    requires { ⌜ Agreed (now kinds) (now rows) (now columns) (now words) × (bundleBytes (length (now kinds)) (length (now words)) ≤ length (now out)) ⌝ }
+    requires { ⌜ Checked (now kinds) (now rows) (now columns) (now words) × (bundleBytes (length (now kinds)) (length (now words)) ≤ length (now out)) ⌝ }
     ensures { λ _. ⌜ now (out .exit) ≡ splice 2 (contentsOf (headBytes (length (now (kinds .entry)))) (given (now (kinds .entry)) (now (rows .entry)) (now (columns .entry)) (now (words .entry)))) (now (out .entry)) ⌝ }
 {
     let start = 2 + 10 * kinds.len();
@@ -79,7 +79,7 @@ fn contents(out: &mut [u8], kinds: &[u16], rows: &[u16], columns: &[u16], words:
 }
 
 fn bodies(out: &mut [u8], kinds: &[u16], rows: &[u16], columns: &[u16], words: &[u64])
-    requires { ⌜ Agreed (now kinds) (now rows) (now columns) (now words) × (bundleBytes (length (now kinds)) (length (now words)) ≤ length (now out)) ⌝ }
+    requires { ⌜ Checked (now kinds) (now rows) (now columns) (now words) × (bundleBytes (length (now kinds)) (length (now words)) ≤ length (now out)) ⌝ }
     ensures { λ _. ⌜ now (out .exit) ≡ splice (headBytes (length (now (kinds .entry)))) (bodiesOf (given (now (kinds .entry)) (now (rows .entry)) (now (columns .entry)) (now (words .entry)))) (now (out .entry)) ⌝ }
 {
     let start = 2 + 10 * kinds.len();
@@ -95,7 +95,7 @@ fn bodies(out: &mut [u8], kinds: &[u16], rows: &[u16], columns: &[u16], words: &
 }
 
 pub(crate) fn bundle(out: &mut [u8], kinds: &[u16], rows: &[u16], columns: &[u16], words: &[u64])
-    requires { ⌜ Agreed (now kinds) (now rows) (now columns) (now words) × (bundleBytes (length (now kinds)) (length (now words)) ≤ length (now out)) ⌝ }
+    requires { ⌜ Checked (now kinds) (now rows) (now columns) (now words) × (bundleBytes (length (now kinds)) (length (now words)) ≤ length (now out)) ⌝ }
     ensures { λ _. ⌜ now (out .exit) ≡ encode (given (now (kinds .entry)) (now (rows .entry)) (now (columns .entry)) (now (words .entry))) ++ drop (length (encode (given (now (kinds .entry)) (now (rows .entry)) (now (columns .entry)) (now (words .entry))))) (now (out .entry)) ⌝ }
 {
     size(out, 0, 2, kinds.len());

@@ -1,7 +1,7 @@
 -- What is read off the reduced packets is what solving promises of images.
 use mathlib.Core.Path.{_≡_, refl, sym, ap, _∙_, subst}
 use mathlib.Core.Logic.{_↔_, _⊎_, inl, inr}
-use mathlib.Core.Bool.{Bool, true, false}
+use mathlib.Core.Bool.{Bool, true, false, cond}
 use mathlib.Core.List.{List}
 use Prim.Native.Nat.{ℕ, suc, _+_, _/_, _^_, _<_}
 use native.Mathlib.Decide.{decLt}
@@ -17,8 +17,8 @@ use Rattle.gf2.specs.Inverse.{tabulate}
 use Rattle.gf2.proofs.Products.{tabulate-row, tabulate-length, tabulate-past}
 use Rattle.gf2.proofs.Space.{same-narrow}
 use Rattle.images.specs.Packets.{Met, Contradictory, Agreed}
-use Rattle.images.specs.ReadOff.{ifThen, pivotRow, contradictory, known, content, unknownBlock, shown, mark, marked}
-use Rattle.images.proofs.Found.{found-cases, Found, Missing}
+use Rattle.images.specs.ReadOff.{pivotRow, Found, Missing, contradictory, known, content, unknownBlock, shown, mark, marked}
+use Rattle.images.proofs.Found.{found-cases}
 use Rattle.images.proofs.Known.{contradictory-exactly, met-cases, content-theirs, known-exactly}
 use Rattle.packets.specs.Solving.{Solved}
 
@@ -32,13 +32,11 @@ count-none : (b : Bool) → (count b ≡ 0) ↔ (T b → ⊥)
 count-none true = ((λ e. absurd (omega arith)), λ k. absurd (k tt))
 count-none false = ((λ _ t. t), λ _. refl)
 
-if-known : (b : Bool) (x : ℕ) → T b → ifThen b x unknownBlock ≡ x
-unfolding ifThen
+if-known : (b : Bool) (x : ℕ) → T b → cond b x unknownBlock ≡ x
 if-known true x t = refl
 if-known false x t = absurd t
 
-if-unknown : (b : Bool) (x : ℕ) → count b ≡ 0 → ifThen b x unknownBlock ≡ unknownBlock
-unfolding ifThen
+if-unknown : (b : Bool) (x : ℕ) → count b ≡ 0 → cond b x unknownBlock ≡ unknownBlock
 if-unknown true x e = absurd (omega arith)
 if-unknown false x e = refl
 
@@ -56,10 +54,10 @@ module _ (n p : ℕ) (R : List ℕ) (narrow : (i : ℕ) → row R i < 2 ^ (n + p
           rw (f .is) (shr-lt p n (subst (λ (x : ℕ). row R (f .at) < 2 ^ x) e (narrow (f .at))))
 
   shown-narrow : (j : ℕ) → shown n R j < 2 ^ p
-  unfolding shown ifThen
+  unfolding shown
   shown-narrow j = go (known n R j)
     where
-      go : (b : Bool) → ifThen b (content n R j) unknownBlock < 2 ^ p
+      go : (b : Bool) → cond b (content n R j) unknownBlock < 2 ^ p
       go true = content-narrow j
       go false = pow-pos p
 

@@ -11,7 +11,12 @@ use Rattle.gf2.specs.Rows.{row}
 use Rattle.images.specs.Packets.{MeetsAll, Agreed, Among}
 use Rattle.images.specs.ReadOff.{marked}
 use Rattle.images.proofs.Meeting.{meets-among}
-use Rattle.packets.specs.Solving.{Solved}
+use Rattle.matrix.specs.declared.Answer.{Answer}
+use Rattle.packets.specs.Solving.{Alike, Solved}
+
+-- equal answers are alike
+pub alike : {r r₂ : Answer} → r ≡ r₂ → Alike r r₂
+alike e = (ap (λ (x : Answer). x .outcome) e, ap (λ (x : Answer). x .rank) e, ap (λ (x : Answer). x .known) e, ap (λ (x : Answer). x .pivots) e)
 
 -- each block is marked 1 or 0
 mark-cases : {n p : ℕ} {L image marks : List ℕ} {known : ℕ} → Solved n p L image marks known → (j : ℕ) → j < n → (row marks j ≡ 1) ⊎ (row marks j ≡ 0)
@@ -22,7 +27,7 @@ mark-cases {marks = marks} s j l = go (ℕ-discrete (row marks j) 1)
     go (no ne) = inr (s .unknown-marked j l .1 (λ a. ne (s .known-marked j l .1 a)))
 
 module _ {n p : ℕ} {L image marks image₂ marks₂ : List ℕ} {known known₂ : ℕ} (s : Solved n p L image marks known) (t : Solved n p L image₂ marks₂ known₂) where
-  pub one-block : (j : ℕ) → j < n → (row marks j ≡ row marks₂ j) × (row image j ≡ row image₂ j)
+  one-block : (j : ℕ) → j < n → (row marks j ≡ row marks₂ j) × (row image j ≡ row image₂ j)
   one-block j l = go (mark-cases s j l)
     where
       go : (row marks j ≡ 1) ⊎ (row marks j ≡ 0) → (row marks j ≡ row marks₂ j) × (row image j ≡ row image₂ j)

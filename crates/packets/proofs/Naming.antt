@@ -13,8 +13,8 @@ use Rattle.gf2.specs.Rows.{row}
 use Rattle.gf2.specs.Reduced.{ReducedForm}
 use Rattle.gf2.specs.Inverse.{adjoin}
 use Rattle.words.specs.Words.{value, wordsOf, rowsOf}
-use Rattle.images.specs.ReadOff.{pivotRow, hasPivot, named}
-use Rattle.images.proofs.Found.{Found, Missing, found-cases, found-not-zero}
+use Rattle.images.specs.ReadOff.{pivotRow, Found, Missing, hasPivot, named}
+use Rattle.images.proofs.Found.{found-cases, found-not-zero}
 use Rattle.images.proofs.Named.{found-names, missing-none, none-exactly, named-narrow}
 use Rattle.refusals.specs.declared.Refusal.{Refusal}
 use Rattle.refusals.specs.declared.Outcome.{Outcome}
@@ -28,7 +28,7 @@ use Rattle.readoff.specs.declared.Reading.the-variants as reading
 use Rattle.readoff.specs.ReadOff as readoff
 use Rattle.packets.specs.declared.Verdict.{Verdict}
 use Rattle.packets.specs.declared.Verdict.the-variants.{Named, None, Refused}
-use Rattle.packets.specs.Contradiction.{Names, Answered, byOutcome, naming}
+use Rattle.packets.specs.Contradiction.{Answered, byOutcome, naming}
 
 -- a pivot inside the payload, or none
 pivot-found : (a e : ℕ) (R : List ℕ) → T (hasPivot a e R) → Found a e R

@@ -7,12 +7,11 @@ use Prim.Native.Nat.{ℕ, _-_}
 use lib.ListN.{length}
 use Rattle.gf2.specs.Reduced.{rank}
 use Rattle.gf2.proofs.Reduced.{one-reduced-form}
-use Rattle.words.specs.Words.{value, wordsOf, rowsOf}
-use Rattle.words.proofs.Slices.{Slice, same-slice, same-number}
+use Rattle.words.specs.Words.{Slice, value, wordsOf, rowsOf}
+use Rattle.words.proofs.Slices.{same-slice, same-number}
 use Rattle.images.specs.Packets.{Met}
 use Rattle.images.specs.ReadOff.{named}
 use Rattle.images.proofs.Meeting.{contradiction-unmet}
-use Rattle.refusals.specs.declared.Refusal.the-variants as refusal
 use Rattle.refusals.specs.declared.Outcome.{Outcome}
 use Rattle.refusals.specs.declared.Outcome.the-variants as outcome
 use Rattle.refusals.specs.Checks.{solvingChecks, contradictionChecks}
@@ -20,10 +19,11 @@ use Rattle.refusals.proofs.Passed.{solving-passed}
 use Rattle.engine.specs.Core.{pivotRecord}
 use Rattle.matrix.specs.declared.Answer.{Answer}
 use Rattle.packets.specs.declared.Verdict.{Verdict}
-use Rattle.packets.specs.declared.Verdict.the-variants.{Named, None, Refused}
+use Rattle.packets.specs.declared.Verdict.the-variants.{Named, None}
 use Rattle.packets.specs.Solving as solving
+use Rattle.packets.specs.Solving.{Alike}
 use Rattle.packets.specs.Contradiction as naming
-use Rattle.packets.proofs.Marks.{one-solved}
+use Rattle.packets.proofs.Marks.{alike, one-solved}
 
 -- ---- solving
 
@@ -31,10 +31,6 @@ module _ (rows columns n : ℕ) (m m′ m₂ image image′ image₂ marks marks
     (lm : length marks′ ≡ length marks) (lm₂ : length marks₂ ≡ length marks) where
   abbrev L : List ℕ
   L = rowsOf (wordsOf columns) rows m
-
-  -- outcome, rank, number known and pivots
-  abbrev Alike : Answer → Answer → Type 0
-  Alike r r₂ = (r .outcome ≡ r₂ .outcome) × (r .rank ≡ r₂ .rank) × (r .known ≡ r₂ .known) × (r .pivots ≡ r₂ .pivots)
 
   module _ (k k₂ : ℕ) (room room₂ room′ room₂′ : List ℕ) (r r₂ : Answer) (e : solvingChecks rows columns n k m (length image) (length marks) (length room) ≡ outcome.Done)
       (a : solving.Solving rows columns n k m image marks room r m′ image′ marks′ room′) (b : solving.Solving rows columns n k₂ m image marks room₂ r₂ m₂ image₂ marks₂ room₂′) where
@@ -74,7 +70,7 @@ module _ (rows columns n : ℕ) (m m′ m₂ image image′ image₂ marks marks
             let f : r ≡ r₂ = c .answered ∙ sym (d .answered) in (
               c .image-kept ∙ sym (d .image-kept),
               c .marks-kept ∙ sym (d .marks-kept),
-              (ap (λ (x : Answer). x .outcome) f, ap (λ (x : Answer). x .rank) f, ap (λ (x : Answer). x .known) f, ap (λ (x : Answer). x .pivots) f),
+              alike f,
               λ _. f,
             )
         go (inl c) (inr d) = absurd (d .unmet (c .solved .met))

@@ -24,7 +24,7 @@ verdictNumber None = 0
 verdictNumber (Refused r) = numberOf r
 
 -- c names packets of L, by the bits of a number: those that the reduced form of the packets beside an identity names right of the first pivot inside the
--- payload. Their coefficients sum to zero, and their payloads do not.
+-- payload. In the sum of these packets every coefficient is zero and some payload bit is not.
 pub record Names (n p : ℕ) (L : List ℕ) (c : ℕ) : Type 0 where
   pub form : List ℕ
   pub reduced : ReducedForm (adjoin (n + p) L) form

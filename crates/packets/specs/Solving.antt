@@ -18,7 +18,7 @@ use Rattle.engine.specs.Core.{zeroed, pivotRecord}
 use Rattle.matrix.specs.declared.Answer.{Answer}
 use Rattle.matrix.specs.Calls.{answerOf, refusedAnswer}
 
--- Of n blocks of p bits: the packets L can be met; a block is marked 1 exactly if all images that meet them agree on it, else 0; a marked block's content
+-- Of n blocks of p bits: the packets L can be met; the mark of a block is 1 where no two images that meet L differ in it, else 0; a marked block's content
 -- is that of each such image, and an unmarked block is left blank.
 pub record Solved (n p : ℕ) (L image marks : List ℕ) (known : ℕ) : Type 0 where
   pub met : Met n p L
@@ -33,12 +33,16 @@ pub record Solved (n p : ℕ) (L image marks : List ℕ) (known : ℕ) : Type 0 
 abbrev pub solvedAnswer : ℕ → ℕ → List ℕ → ℕ → Answer
 solvedAnswer k columns N known = answerOf Done (rank N) known (additions k columns N) (pivotRecord 512 N)
 
+-- two answers alike in all but the table additions: in outcome, rank, number known and pivots
+abbrev pub Alike : Answer → Answer → Type 0
+Alike r r₂ = (r .outcome ≡ r₂ .outcome) × (r .rank ≡ r₂ .rank) × (r .known ≡ r₂ .known) × (r .pivots ≡ r₂ .pivots)
+
 -- some image meets the packets, and the blocks are told
 pub record Told (columns n k : ℕ) (L N : List ℕ) (r : Answer) (image′ marks′ : List ℕ) : Type 0 where
   pub solved : Solved n (columns - n) L (rowsOf (wordsOf (columns - n)) n image′) marks′ (r .known)
   pub answered : r ≡ solvedAnswer k columns N (r .known)
 
--- no image meets the packets, and image and marks are as they were
+-- no image meets the packets, which is number 10, and image and marks are as they were
 pub record Refuted (columns n : ℕ) (L : List ℕ) (r : Answer) (image marks image′ marks′ : List ℕ) : Type 0 where
   pub unmet : Contradictory n (columns - n) L
   pub answered : r ≡ refusedAnswer refusal.Contradictory

@@ -53,13 +53,14 @@ pub fn solve(
             match s {
                 Solved::Known(known) => matrix::told(Outcome::Done, rank, known, additions, p),
                 Solved::Contradictory => matrix::refused(Refusal::Contradictory),
+                // cannot be: past the checks the shapes fit
                 Solved::Unfit => matrix::refused(Refusal::Contradictory),
             }
         }
     }
 }
 
-// names packets whose coefficients sum to zero while their payloads do not, if there are any
+// names packets that contradict each other, if there are any
 pub fn contradiction(
     m: &[u64],
     rows: usize,
@@ -75,12 +76,14 @@ pub fn contradiction(
     match o {
         Outcome::Refused(r) => Verdict::Refused(r),
         Outcome::Done => {
+            // its answer tells nothing: past the checks the shapes fit
             beside::reduce(room, m, rows, columns, k);
             let read = readoff::named(room, rows, columns + rows, n, columns, named);
             engine::blank(room, rows * refusals::words(columns + rows));
             match read {
                 Reading::Found => Verdict::Named,
                 Reading::Missing => Verdict::None,
+                // cannot be: past the checks the shapes fit
                 Reading::Unfit => Verdict::None,
             }
         }

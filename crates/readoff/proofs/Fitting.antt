@@ -30,13 +30,6 @@ holds-decides rows columns m wide true e =
     record { wide = wide; held = t .0; clean = t .1 }
 holds-decides rows columns m wide false e = λ f. subst T (sym (e ∙ holds-exactly rows columns m .1 (f .held, f .clean))) tt
 
-module _ {A : Type 0} (b : Bool) (d : Decides b A) where
-  pub yes-so : b ≡ true → A
-  yes-so e = subst (λ (x : Bool). Decides x A) e d
-
-  pub not-so : b ≡ false → A → ⊥
-  not-so e = subst (λ (x : Bool). Decides x A) e d
-
 -- a buffer of rows x words, and none but that
 module _ (rows columns len : ℕ) (o : Outcome) (e : o ≡ wrongBuffer rows columns len) where
   pub buffer-right : outcomeNumber o ≡ 0 → len ≡ rows * wordsOf columns

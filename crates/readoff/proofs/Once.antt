@@ -5,8 +5,8 @@ use mathlib.Core.List.{List}
 use Prim.Native.Nat.{ℕ, _+_, _-_}
 use lib.ListN.{length}
 use Rattle.gf2.specs.Inverse.{beginsWithIdentity}
-use Rattle.words.specs.Words.{wordsOf, rowsOf}
-use Rattle.words.proofs.Slices.{Slice, same-slice, same-number}
+use Rattle.words.specs.Words.{Slice, wordsOf, rowsOf}
+use Rattle.words.proofs.Slices.{same-slice, same-number}
 use Rattle.images.specs.ReadOff.{hasPivot, contradictory, marked}
 use Rattle.readoff.specs.declared.Reading.{Reading}
 use Rattle.readoff.specs.declared.Reading.the-variants.{Unfit, Missing, Found}

@@ -13,9 +13,9 @@ use Rattle.gf2.specs.Rows.{row, part}
 use Rattle.gf2.proofs.Pivot.{pivot-not-zero}
 use Rattle.words.specs.Words.{Fit, value, rowsOf}
 use Rattle.words.proofs.Parts.{length-part}
-use Rattle.words.proofs.Rows.{row-ends, getD-rows}
+use Rattle.words.proofs.Rows.{row-end, getD-rows}
 use Rattle.words.proofs.Value.{value-lt, part-fits}
-use Rattle.images.specs.ReadOff.{ifThen, inside, pivotRow, hasPivot}
+use Rattle.images.specs.ReadOff.{inside, pivotRow, hasPivot}
 use Rattle.images.proofs.Found.{Inside, inside-cases}
 use Rattle.readoff.specs.Steps.{NextOne, FirstIn}
 use Rattle.readoff.proofs.Lead.{lead-inside}
@@ -23,7 +23,7 @@ use Rattle.readoff.proofs.Lead.{lead-inside}
 -- ---- what the number says
 
 pub place-row : (a e : ℕ) (R : List ℕ) (i : ℕ) → FirstIn a e R i → pivotRow a e R ≡ row R i
-unfolding pivotRow ifThen
+unfolding pivotRow
 place-row a e [] i f = refl
 place-row a e (r ∷ R) zero f = rw (f .here (omega arith))
 place-row a e (r ∷ R) (suc i) f =
@@ -47,9 +47,6 @@ module _ (a e : ℕ) (R : List ℕ) (i : ℕ) (f : FirstIn a e R i) where
 
 pub part-narrow : (m : List ℕ) (at w : ℕ) → Fit m → at + w ≤ length m → value (part at w m) < 2 ^ (64 * w)
 part-narrow m at w fit h = subst (λ (x : ℕ). value (part at w m) < 2 ^ (64 * x)) (length-part at w m h) (value-lt (part at w m) (part-fits m at w fit))
-
-pub row-end : (m : List ℕ) (w rows i : ℕ) → rows * w ≤ length m → i < rows → i * w + w ≤ length m
-row-end m w rows i hm hi = omega (arith, row-ends i rows w hi)
 
 module _ (m : List ℕ) (w rows i : ℕ) (fit : Fit m) (hm : rows * w ≤ length m) (hi : i < rows) where
   pub row-narrow : value (part (i * w) w m) < 2 ^ (64 * w)

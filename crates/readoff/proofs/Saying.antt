@@ -1,7 +1,7 @@
 -- What a further row says: of the block of its pivot whether it is known, and of the others nothing.
 use mathlib.Core.Path.{_≡_, refl, sym, ap, ap₂, _∙_}
 use mathlib.Core.Logic.{_≢_}
-use mathlib.Core.Bool.{Bool, true, false}
+use mathlib.Core.Bool.{Bool, true, false, cond}
 use mathlib.Core.List.{List, [], _∷_}
 use Prim.Native.Nat.{ℕ, suc, _+_, _-_, _*_, _/_, _%_, _^_, _≤_, _<_}
 use native.Mathlib.Decide.{ℕ-discrete, decLt}
@@ -19,7 +19,7 @@ use Rattle.words.specs.Words.{value, rowsOf, firstWords}
 use Rattle.words.proofs.First.{length-first, getD-first, value-first}
 use Rattle.words.proofs.Parts.{paste-more}
 use Rattle.words.proofs.Rows.{length-rows, getD-rows, rows-paste}
-use Rattle.images.specs.ReadOff.{ifThen, inside, pivotRow, known, content, unknownBlock, shown, mark, marked}
+use Rattle.images.specs.ReadOff.{inside, pivotRow, known, content, unknownBlock, shown, mark, marked}
 use Rattle.readoff.specs.ReadOff.{Shown}
 
 -- ---- block by block
@@ -46,7 +46,7 @@ module _ (n v : ℕ) (R image marks : List ℕ) where
 -- ---- no rows, no known block
 
 pub none-known : (n j : ℕ) → (shown n [] j ≡ unknownBlock) × (mark n [] j ≡ 0)
-unfolding shown mark known pivotRow ifThen
+unfolding shown mark known pivotRow
 none-known n j =
     let e : eqb (0 % 2 ^ n) (2 ^ j) ≡ false = ne-eqb (0 % 2 ^ n) (2 ^ j) (omega (arith, pow-pos j, zero-mod (2 ^ n))) in
     rw e (refl, refl)
@@ -94,20 +94,20 @@ module _ (n r : ℕ) (R : List ℕ) (j : ℕ) where
   abbrev pub alone : Bool
   alone = eqb (r % 2 ^ n) (2 ^ j)
 
-  says-shown : inside j (suc j) r ≡ true → shown n (r ∷ R) j ≡ ifThen alone (r / 2 ^ n) unknownBlock
-  unfolding shown known content pivotRow ifThen
+  says-shown : inside j (suc j) r ≡ true → shown n (r ∷ R) j ≡ cond alone (r / 2 ^ n) unknownBlock
+  unfolding shown known content pivotRow
   says-shown e = rw e
 
   says-mark : inside j (suc j) r ≡ true → mark n (r ∷ R) j ≡ count alone
-  unfolding mark known pivotRow ifThen
+  unfolding mark known pivotRow
   says-mark e = rw e
 
   silent-shown : inside j (suc j) r ≡ false → shown n (r ∷ R) j ≡ shown n R j
-  unfolding shown known content pivotRow ifThen
+  unfolding shown known content pivotRow
   silent-shown e = rw e
 
   silent-mark : inside j (suc j) r ≡ false → mark n (r ∷ R) j ≡ mark n R j
-  unfolding mark known pivotRow ifThen
+  unfolding mark known pivotRow
   silent-mark e = rw e
 
 module _ (n v r : ℕ) (R image marks : List ℕ) (s : ShownAt n v R image marks) where
@@ -121,7 +121,7 @@ module _ (n v r : ℕ) (R image marks : List ℕ) (s : ShownAt n v R image marks
 
   -- it is that of block j
   pub said : (j : ℕ) → j < n → inside j (suc j) r ≡ true → ((i : ℕ) → i ≢ j → inside i (suc i) r ≡ false) → (x y : ℕ) (image′ marks′ : List ℕ)
-      → rowsOf v n image′ ≡ set (rowsOf v n image) j x → marks′ ≡ set marks j y → x ≡ ifThen (alone n r R j) (r / 2 ^ n) unknownBlock → y ≡ count (alone n r R j)
+      → rowsOf v n image′ ≡ set (rowsOf v n image) j x → marks′ ≡ set marks j y → x ≡ cond (alone n r R j) (r / 2 ^ n) unknownBlock → y ≡ count (alone n r R j)
       → ShownAt n v (r ∷ R) image′ marks′
   said j l here other x y image′ marks′ ei em ex ey = record {
     block = λ i h. block i h (ℕ-discrete i j);

@@ -1,7 +1,7 @@
 -- The two halves of a matrix, row by row: the identity on the left, and what is copied from the right.
-use mathlib.Core.Path.{_≡_, sym, ap, _∙_, subst}
+use mathlib.Core.Path.{_≡_, refl, sym, ap, _∙_, subst}
 use mathlib.Core.Logic.{_≢_}
-use mathlib.Core.Bool.{true, false}
+use mathlib.Core.Bool.{Bool, true, false}
 use mathlib.Core.List.{List}
 use Prim.Native.Nat.{ℕ, _+_, _-_, _*_, _/_, _%_, _^_, _≤_, _<_}
 use native.Mathlib.Decide.{decLt, ℕ-discrete}
@@ -22,16 +22,24 @@ use Rattle.words.proofs.Rows.{length-rows, getD-rows, rows-paste}
 
 -- ---- the identity
 
+true-is : (b : Bool) → T b → true ≡ b
+true-is true t = refl
+true-is false t = absurd t
+
+false-is : (b : Bool) → (T b → ⊥) → false ≡ b
+false-is true k = absurd (k tt)
+false-is false k = refl
+
 module _ (n : ℕ) (R : List ℕ) where
-  pub units-begin : length R ≡ n → ((i : ℕ) → i < n → row R i % 2 ^ n ≡ 2 ^ i) → T (beginsWithIdentity n R)
-  units-begin size h = begins-true n R .1 (is-tabulate (leftOf n R) n (λ i. 2 ^ i) (length-map R (λ v. v % 2 ^ n) ∙ size) (λ i l. left-row n R i ∙ h i l))
+  pub units-begin : length R ≡ n → ((i : ℕ) → i < n → row R i % 2 ^ n ≡ 2 ^ i) → true ≡ beginsWithIdentity n R
+  units-begin size h = true-is (beginsWithIdentity n R) (begins-true n R .1 (is-tabulate (leftOf n R) n (λ i. 2 ^ i) (length-map R (λ v. v % 2 ^ n) ∙ size) (λ i l. left-row n R i ∙ h i l)))
 
   begins-units : (i : ℕ) → i < n → row R i % 2 ^ n ≢ 2 ^ i → T (beginsWithIdentity n R) → ⊥
   begins-units i l ne t = ne (sym (left-row n R i) ∙ ap (λ (M : List ℕ). row M i) (begins-true n R .0 t) ∙ tabulate-row n (λ i. 2 ^ i) i l)
 
 module _ (n w : ℕ) (m : List ℕ) (i : ℕ) (hi : i < n) where
-  pub unit-fails : eqb (value (part (i * w) w m) % 2 ^ n) (2 ^ i) ≡ false → T (beginsWithIdentity n (rowsOf w n m)) → ⊥
-  unit-fails e = begins-units n (rowsOf w n m) i hi (λ s. eqb-false (value (part (i * w) w m) % 2 ^ n) (2 ^ i) e (ap (λ (v : ℕ). v % 2 ^ n) (sym (getD-rows w n m i hi)) ∙ s))
+  pub unit-fails : eqb (value (part (i * w) w m) % 2 ^ n) (2 ^ i) ≡ false → false ≡ beginsWithIdentity n (rowsOf w n m)
+  unit-fails e = false-is (beginsWithIdentity n (rowsOf w n m)) (begins-units n (rowsOf w n m) i hi (λ s. eqb-false (value (part (i * w) w m) % 2 ^ n) (2 ^ i) e (ap (λ (v : ℕ). v % 2 ^ n) (sym (getD-rows w n m i hi)) ∙ s)))
 
   pub unit-turn : ((j : ℕ) → j < i → row (rowsOf w n m) j % 2 ^ n ≡ 2 ^ j) → eqb (value (part (i * w) w m) % 2 ^ n) (2 ^ i) ≡ true
       → (j : ℕ) → j < i + 1 → row (rowsOf w n m) j % 2 ^ n ≡ 2 ^ j

@@ -1,7 +1,7 @@
 -- What is stored for a row is what the row says: by its first one, q, and the next one, q₂.
 use mathlib.Core.Path.{_≡_, refl, ap, _∙_}
 use mathlib.Core.Logic.{_≢_}
-use mathlib.Core.Bool.{Bool, true, false}
+use mathlib.Core.Bool.{Bool, true, false, cond}
 use mathlib.Core.List.{List, _∷_}
 use Prim.Native.Nat.{ℕ, suc, _+_, _*_, _/_, _%_, _^_, _≤_, _<_}
 use native.Mathlib.Nat.{le-refl}
@@ -15,7 +15,7 @@ use Rattle.gf2.specs.Additions.{count}
 use Rattle.words.specs.Words.{rowsOf, firstWords}
 use Rattle.words.proofs.First.{length-first, value-first}
 use Rattle.words.proofs.Rows.{rows-paste}
-use Rattle.images.specs.ReadOff.{ifThen, inside, unknownBlock}
+use Rattle.images.specs.ReadOff.{inside, unknownBlock}
 use Rattle.readoff.specs.ReadOff.{Shown}
 use Rattle.readoff.specs.Steps.{NextOne}
 use Rattle.readoff.proofs.Lead.{inside-yes, inside-no, unit-more, unit-alone}
@@ -28,8 +28,7 @@ stored n v j u image image′ l h b e =
     ap (rowsOf v n) e ∙ rows-paste v n j image (firstWords v u) l h (length-first v u) ∙ ap (set (rowsOf v n image) j) (value-first v u b)
 
 -- what the two answers of the test make of it
-by-test : (b : Bool) (x : ℕ) → (b ≡ false → (unknownBlock ≡ ifThen b x unknownBlock) × (0 ≡ count b)) × (b ≡ true → (x ≡ ifThen b x unknownBlock) × (1 ≡ count b))
-unfolding ifThen
+by-test : (b : Bool) (x : ℕ) → (b ≡ false → (unknownBlock ≡ cond b x unknownBlock) × (0 ≡ count b)) × (b ≡ true → (x ≡ cond b x unknownBlock) × (1 ≡ count b))
 by-test b x = ((λ e. rw e (refl, refl)), λ e. rw e (refl, refl))
 
 module _ (n v end r q : ℕ) (narrow : r < 2 ^ end) (f : NextOne 0 end r q) (b : n ≤ end) (R image marks : List ℕ) where
@@ -45,7 +44,7 @@ module _ (n v end r q : ℕ) (narrow : r < 2 ^ end) (f : NextOne 0 end r q) (b :
     other i ne = inside-no end r q narrow f i (suc i) (λ h. omega arith)
 
     tell : (x y : ℕ) → x < 2 ^ (64 * v) → image′ ≡ paste image (q * v) (firstWords v x) v → marks′ ≡ set marks q y
-        → x ≡ ifThen (eqb (r % 2 ^ n) (2 ^ q)) (r / 2 ^ n) unknownBlock → y ≡ count (eqb (r % 2 ^ n) (2 ^ q)) → Shown n v R image marks → Shown n v (r ∷ R) image′ marks′
+        → x ≡ cond (eqb (r % 2 ^ n) (2 ^ q)) (r / 2 ^ n) unknownBlock → y ≡ count (eqb (r % 2 ^ n) (2 ^ q)) → Shown n v R image marks → Shown n v (r ∷ R) image′ marks′
     tell x y l ei em ex ey s =
         at-shown n v (r ∷ R) image′ marks′ (said n v r R image marks (shown-at n v R image marks s) q small here other x y image′ marks′ (stored n v q x image image′ small hi l ei) em ex ey)
 

@@ -41,7 +41,7 @@ pub record Packets (rows columns n : ℕ) (m : List ℕ) : Type 0 where
 abbrev pub refuted : Reading → ℕ → ℕ → ℕ → List ℕ → Type 0
 refuted r rows columns n m = decided r (Packets rows columns n m) (contradictory n (columns - n) (rowsOf (wordsOf columns) rows m))
 
--- ---- the columns from e on of the row whose pivot is the first one in columns a to e - 1
+-- ---- the first row with its pivot in columns a to e - 1: its columns from e on
 
 pub record Names (rows columns e : ℕ) (m : List ℕ) (names : ℕ) : Type 0 where
   pub matrix : Holds rows columns m

@@ -1,4 +1,4 @@
--- What the steps on the way say, inside the crate.
+-- What the steps on the way say, inside the crate. No public promise cites any of it.
 use mathlib.Core.Path.{_≡_}
 use mathlib.Core.Bool.{true, false}
 use mathlib.Core.List.{List}

@@ -3,7 +3,7 @@ ghost use mathlib.Core.Path.{_≡_};
 ghost use mathlib.Core.Bool.{_&&_};
 ghost use mathlib.Core.List.{List, [], _∷_};
 ghost use Prim.Native.Nat.{ℕ, _+_, _*_, _/_, _%_, _^_, _≤_, _<_};
-ghost use lib.Dec.{T, eqb, leb, ltb};
+ghost use lib.Dec.{eqb, leb, ltb};
 ghost use lib.ListN.{length, getD, set};
 ghost use lib.Seq.{paste};
 ghost use Rattle.gf2.specs.Rows.{row, part};
@@ -16,13 +16,14 @@ ghost use Rattle.readoff.specs.Steps.{FirstIn};
 
 mod row;
 
-// Unfit: the shapes do not fit, and nothing has been done
+// Found: what was looked for is there, and written where a buffer is lent; Missing: it is not; Unfit: the shapes do not fit. Only Found writes
 pub enum Reading {
     Unfit,
     Missing,
     Found,
 }
 
+// Known: how many blocks are; Contradictory: a pivot stands in the payload; Unfit: the shapes do not fit. Only Known writes
 pub enum Solved {
     Unfit,
     Contradictory,
@@ -78,7 +79,7 @@ pub fn contradictory(m: &[u64], rows: usize, columns: usize, n: usize) -> Readin
     }
 }
 
-// the row whose pivot is the first one in columns a to e - 1: its columns from e on become the words of `names`
+// of the first row with its pivot in columns a to e - 1 the columns from e on become the words of `names`
 pub fn named(
     m: &[u64],
     rows: usize,
@@ -122,7 +123,7 @@ fn is_unit(m: &[u64], at: usize, w: usize, n: usize, j: usize) -> bool
 // whether the first n columns are those of the identity
 fn begins_with_identity(m: &[u64], n: usize, w: usize) -> bool
     requires { ⌜ (n * w ≤ length (now m)) × (w ≤ 16) × (n ≤ 64 * w) ⌝ }
-    ensures { λ r. ⌜ Decides r (T (beginsWithIdentity n (rowsOf w n (now (m .entry))))) ⌝ }
+    ensures { λ r. ⌜ r ≡ beginsWithIdentity n (rowsOf w n (now (m .entry))) ⌝ }
 {
     let mut i = 0;
     while i < n {
@@ -198,7 +199,7 @@ fn tell(m: &[u64], i: usize, w: usize, n: usize, v: usize, image: &mut [u64], ma
     marks[j] = 1;
 }
 
-// no block is known
+// at first no block is known
 fn blank(n: usize, v: usize, image: &mut [u64], marks: &mut [u8])
     requires { ⌜ (n * v ≤ length (now image)) × (length (now marks) ≡ n) ⌝ }
     ensures { λ _. ⌜ Shown n v [] (now (image .exit)) (now (marks .exit)) ⌝ }
@@ -210,6 +211,7 @@ fn blank(n: usize, v: usize, image: &mut [u64], marks: &mut [u8])
     }
 }
 
+// how many marks are set
 fn count(marks: &[u8]) -> usize
     requires { ⌜ ((j : ℕ) → getD (now marks) j 0 ≤ 1) ⌝ }
     ensures { λ x. ⌜ x ≡ marked (now (marks .entry)) ⌝ }
@@ -224,6 +226,7 @@ fn count(marks: &[u8]) -> usize
     sum
 }
 
+// the blocks and marks of all rows; answers how many are known
 fn blocks(
     m: &[u64],
     rows: usize,
@@ -237,6 +240,7 @@ fn blocks(
     ensures { λ x. ⌜ Shown n v (rowsOf w rows (now (m .entry))) (now (image .exit)) (now (marks .exit)) × (x ≡ marked (now (marks .exit))) ⌝ }
 {
     blank(n, v, image, marks);
+    // from the last row to the first, so that of two rows with one pivot column the first counts
     let mut i = rows;
     while 0 < i {
         i -= 1;

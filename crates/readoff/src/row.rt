@@ -1,35 +1,23 @@
 // A row, the w words from place `at` of a buffer on, by its columns.
 ghost use mathlib.Core.Path.{_≡_};
-ghost use Prim.Native.Nat.{_+_, _*_, _/_, _%_, _^_, _≤_, _<_};
-ghost use lib.ListN.{length, getD};
+ghost use Prim.Native.Nat.{_+_, _*_, _/_, _^_, _≤_};
+ghost use lib.ListN.{length};
 ghost use lib.Seq.{paste};
 ghost use Rattle.gf2.specs.Rows.{part};
 ghost use Rattle.words.specs.Words.{value, firstWords, windowBits};
 ghost use Rattle.readoff.specs.Steps.{NextOne};
 
-// word l of the row; past the row's end, zero
-fn word(m: &[u64], at: usize, w: usize, l: usize) -> u64
-    requires { ⌜ at + w ≤ length (now m) ⌝ }
-    ensures { λ x. ⌜ x ≡ getD (part at w (now (m .entry))) l 0 ⌝ }
-{
-    if w <= l {
-        return 0;
-    }
-    m[at + l]
-}
-
 // the 64 columns from column c on; past the row's end, zeros
 fn columns_from(m: &[u64], at: usize, w: usize, c: usize) -> u64
-    requires { ⌜ at + w ≤ length (now m) ⌝ }
     ensures { λ x. ⌜ x ≡ windowBits c 64 (value (part at w (now (m .entry)))) ⌝ }
 {
     let l = c / 64;
     let s = c % 64;
-    let low = word(m, at, w, l) >> s;
+    let low = refusals::word(m, at, w, l) >> s;
     if s == 0 {
         return low;
     }
-    low | (word(m, at, w, l + 1) << (64 - s))
+    low | (refusals::word(m, at, w, l + 1) << (64 - s))
 }
 
 // the dw words from place `to` of d on become the row's columns from c on
@@ -42,7 +30,7 @@ pub(crate) fn take_from(
     w: usize,
     c: usize,
 )
-    requires { ⌜ (to + dw ≤ length (now d)) × (at + w ≤ length (now m)) × (dw ≤ 16) × (c ≤ 1024) ⌝ }
+    requires { ⌜ (to + dw ≤ length (now d)) × (dw ≤ 16) × (c ≤ 1024) ⌝ }
     ensures { λ _. ⌜ now (d .exit) ≡ paste (now (d .entry)) to (firstWords dw (value (part at w (now (m .entry))) / 2 ^ c)) dw ⌝ }
 {
     let mut l = 0;

@@ -1,13 +1,16 @@
--- The text of the entries, one entry more at a time.
+-- The text of the entries, one entry more at a time; it is that of THE reduced form of each.
 use mathlib.Core.Path.{_≡_, refl, sym, ap, ap₂, _∙_}
 use mathlib.Core.List.{List, _++_, append-assoc, append-nil}
 use Prim.Native.Nat.{ℕ, zero, suc, _+_}
 use native.Mathlib.Numerals.{add-one}
 use native.Mathlib.Omega.{arith}
+use Rattle.gf2.specs.Reduced.{ReducedForm}
 use Rattle.gf2.specs.Rref.{rref}
+use Rattle.gf2.proofs.Reduced.{one-reduced-form}
+use Rattle.gf2.proofs.Rref.{rref-form}
 use Rattle.refusals.specs.declared.Refusal.{Refusal}
 use Rattle.refusals.specs.declared.Outcome.the-variants.{Done}
-use Rattle.bundle.specs.Bundle.{countOf, bothKinds, bundleChecks, entryAt, entriesFrom, entriesOf, meaning}
+use Rattle.bundle.specs.Bundle.{Entry, countOf, bothKinds, bundleChecks, entryAt, entriesFrom, entriesOf, meaning}
 use Rattle.bundle.specs.Answers.{countedIn}
 use Rattle.bundle.specs.declared.Counted.the-variants as counted
 use Rattle.bundle.proofs.Meaning.{count-from}
@@ -15,6 +18,10 @@ use Rattle.bundle.proofs.Exactly.{means, refused-means}
 use Rattle.text.specs.Text.{ascii, newline, decimal}
 use Rattle.desk.specs.Desk.{refusedText}
 use Rattle.reduce.specs.Report.{entryText, entriesText, meaningText, report}
+
+-- THEOREM: how `rref` finds the form does not show: any reduced form of an entry gives the same text
+pub any-form : (i : ℕ) (e : Entry) (R : List ℕ) → ReducedForm (e .matrix) R → entryText i e R ≡ entryText i e (rref (e .matrix))
+any-form i e R f = ap (entryText i e) (one-reduced-form f (rref-form (e .matrix)))
 
 -- entry j + n after n entries from entry j on, whose numbers in the text begin at i
 text-more : (n i j : ℕ) (b : List ℕ)

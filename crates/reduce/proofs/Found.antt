@@ -3,7 +3,7 @@ use mathlib.Core.Path.{_≡_, refl, sym, ap, ap₂, _∙_, subst}
 use mathlib.Core.Logic.{_≢_}
 use mathlib.Core.Bool.{Bool, true, _&&_}
 use mathlib.Core.List.{List, [], _∷_, _++_, append-assoc}
-use Prim.Native.Nat.{ℕ, zero, suc, _+_, _*_, _^_, _<_, _≤_}
+use Prim.Native.Nat.{ℕ, zero, suc, _*_, _^_, _<_, _≤_}
 use native.Mathlib.Nat.{lt-of-lt-of-le, mul-le-mul-right, le-trans}
 use native.Mathlib.Omega.{arith}
 use lib.Pow.{pow-mono}
@@ -25,9 +25,9 @@ use Rattle.refusals.specs.declared.Outcome.the-variants.{Done}
 use Rattle.bundle.specs.Bundle.{Entry, bodyWords, countOf, bothKinds, bundleChecks, entryAt, meaning}
 use Rattle.bundle.specs.Answers.{Found, found, find}
 use Rattle.bundle.proofs.Meaning.{find-entry}
-use Rattle.desk.specs.declared.Reduced.{Reduced as Told}
-use Rattle.desk.specs.declared.Reduced.the-variants as told
-use Rattle.desk.specs.Desk.{tableRows, reducedOf, roomFor, reducedBy, reducedFound, reducedEntry}
+use Rattle.desk.specs.declared.EntryReduced.{EntryReduced}
+use Rattle.desk.specs.declared.EntryReduced.the-variants as answer
+use Rattle.desk.specs.Desk.{window, tableRows, reducedOf, roomFor, reducedBy, reducedFound, reducedEntry}
 use Rattle.desk.proofs.Sound.{Sound, found-sound}
 use Rattle.text.specs.Put.{Put}
 use Rattle.text.proofs.Putting.{put-then}
@@ -47,8 +47,8 @@ rows-first w (suc k) (v ∷ R) rest h f =
     (ap (rowsOf w k) (drop-at (firstWords w v) (flat w R ++ rest) w (length-first w v)) ∙ rows-first w k R rest (omega arith) (λ i. f (suc i)))
 
 -- what has been told of an entry, and what the words then hold
-pub record Shown (e : Entry) (t : Told) (words′ : List ℕ) : Type 0 where
-  pub says : t ≡ told.Entry (e .rows) (e .columns) (rank (rref (e .matrix))) (additions 4 (e .columns) (rref (e .matrix)))
+pub record Shown (e : Entry) (t : EntryReduced) (words′ : List ℕ) : Type 0 where
+  pub says : t ≡ answer.Entry (e .rows) (e .columns) (rank (rref (e .matrix))) (additions window (e .columns) (rref (e .matrix)))
   pub reduced : Reduced (rref (e .matrix))
   pub inside : rank (rref (e .matrix)) * wordsOf (e .columns) ≤ length words′
   pub first : rowsOf (wordsOf (e .columns)) (rank (rref (e .matrix))) words′ ≡ take (rank (rref (e .matrix))) (rref (e .matrix))
@@ -70,7 +70,7 @@ module _ (e : Entry) (s : Sound e) where
   unfolding M w
   narrow i = lt-of-lt-of-le (same-narrow (e .columns) (e .matrix) (rref (e .matrix)) (rref-form (e .matrix) .space) (s .clean) i) (pow-mono {i = e .columns} {j = 64 * wordsOf (e .columns)} (omega arith))
 
-  shown : (words words′ : List ℕ) (t : Told) → t ≡ reducedOf e → words′ ≡ flat (wordsOf (e .columns)) (rref (e .matrix)) ++ drop (bodyWords (e .rows) (e .columns)) words → Shown e t words′
+  shown : (words words′ : List ℕ) (t : EntryReduced) → t ≡ reducedOf e → words′ ≡ flat (wordsOf (e .columns)) (rref (e .matrix)) ++ drop (bodyWords (e .rows) (e .columns)) words → Shown e t words′
   unfolding reducedOf M w
   shown words words′ t et ew =
       let n : ℕ = rank (rref (e .matrix)) in
@@ -85,7 +85,7 @@ module _ (e : Entry) (s : Sound e) where
         first = ap (rowsOf (wordsOf (e .columns)) n) ew ∙ rows-first (wordsOf (e .columns)) n (rref (e .matrix)) D (rank-le (rref (e .matrix)) red) narrow;
       }
 
-pub entry-shown : (i : ℕ) (b words room : List ℕ) (t : Told) (words′ room′ : List ℕ) → bundleChecks bothKinds b ≡ Done → i < countOf b → 8192 ≤ length words → 256 ≤ length room
+pub entry-shown : (i : ℕ) (b words room : List ℕ) (t : EntryReduced) (words′ room′ : List ℕ) → bundleChecks bothKinds b ≡ Done → i < countOf b → 8192 ≤ length words → 256 ≤ length room
     → reducedEntry i b words room t words′ room′ → Shown (entryAt i b) t words′
 entry-shown i b words room t words′ room′ d h hw hr r =
     let f : find i (meaning bothKinds b) ≡ found (entryAt i b) = find-entry bothKinds b (bundleChecks bothKinds b) refl d (countOf b) refl i h in
@@ -96,27 +96,27 @@ entry-shown i b words room t words′ room′ d h hw hr r =
     shown (entryAt i b) s words words′ t (q .0) (q .1)
 
 -- the rows that are then shown are not zero
-pub not-zero : (e : Entry) (t : Told) (words′ : List ℕ) → Shown e t words′ → (i : ℕ) → i < rank (rref (e .matrix)) → row (rowsOf (wordsOf (e .columns)) (rank (rref (e .matrix))) words′) i ≢ 0
+pub not-zero : (e : Entry) (t : EntryReduced) (words′ : List ℕ) → Shown e t words′ → (i : ℕ) → i < rank (rref (e .matrix)) → row (rowsOf (wordsOf (e .columns)) (rank (rref (e .matrix))) words′) i ≢ 0
 not-zero e t words′ s i h z =
     rank-used (rref (e .matrix)) (s .reduced) i h (sym (getD-take (rank (rref (e .matrix))) (rref (e .matrix)) i 0 h) ∙ ap (λ (L : List ℕ). row L i) (sym (s .first)) ∙ z)
 
 -- ---- the answer taken apart
 
-module _ (e : Entry) (t : Told) (words′ : List ℕ) (s : Shown e t words′) where
-  pub found-not-refused : (x : Refusal) → t ≡ told.Refused x → ⊥
+module _ (e : Entry) (t : EntryReduced) (words′ : List ℕ) (s : Shown e t words′) where
+  pub found-not-refused : (x : Refusal) → t ≡ answer.Refused x → ⊥
   found-not-refused x q =
-      let y : t ≡ told.Entry (e .rows) (e .columns) (rank (rref (e .matrix))) (additions 4 (e .columns) (rref (e .matrix))) = s .says in
+      let y : t ≡ answer.Entry (e .rows) (e .columns) (rank (rref (e .matrix))) (additions window (e .columns) (rref (e .matrix))) = s .says in
       let z : _≡_ {A = ℕ} 0 1 = cc in
       omega arith
 
-  pub found-not-unfit : t ≡ told.Unfit → ⊥
+  pub found-not-unfit : t ≡ answer.Unfit → ⊥
   found-not-unfit q =
-      let y : t ≡ told.Entry (e .rows) (e .columns) (rank (rref (e .matrix))) (additions 4 (e .columns) (rref (e .matrix))) = s .says in
+      let y : t ≡ answer.Entry (e .rows) (e .columns) (rank (rref (e .matrix))) (additions window (e .columns) (rref (e .matrix))) = s .says in
       let z : _≡_ {A = ℕ} 0 1 = cc in
       omega arith
 
-  module _ (rows columns n added : ℕ) (q : t ≡ told.Entry rows columns n added) where
-    same : told.Entry (e .rows) (e .columns) (rank (rref (e .matrix))) (additions 4 (e .columns) (rref (e .matrix))) ≡ told.Entry rows columns n added
+  module _ (rows columns n added : ℕ) (q : t ≡ answer.Entry rows columns n added) where
+    same : answer.Entry (e .rows) (e .columns) (rank (rref (e .matrix))) (additions window (e .columns) (rref (e .matrix))) ≡ answer.Entry rows columns n added
     same = sym (s .says) ∙ q
 
     er : e .rows ≡ rows
@@ -128,7 +128,7 @@ module _ (e : Entry) (t : Told) (words′ : List ℕ) (s : Shown e t words′) w
     en : rank (rref (e .matrix)) ≡ n
     en = let y = same in cc
 
-    ea : additions 4 (e .columns) (rref (e .matrix)) ≡ added
+    ea : additions window (e .columns) (rref (e .matrix)) ≡ added
     ea = let y = same in cc
 
     pub rows-lent : (n * wordsOf columns ≤ length words′) × ((i : ℕ) → i < n → row (rowsOf (wordsOf columns) n words′) i ≢ 0)
@@ -141,7 +141,7 @@ module _ (e : Entry) (t : Told) (words′ : List ℕ) (s : Shown e t words′) w
     lines =
         ap₂ (λ (x k : ℕ). rowLines x (rowsOf (wordsOf x) k words′)) (sym ec) (sym en) ∙ ap (rowLines (e .columns)) (s .first) ∙ lines-whole (e .columns) (rref (e .matrix)) (s .reduced)
 
-    line : (i : ℕ) → entryLine i rows columns n added ≡ entryLine i (e .rows) (e .columns) (rank (rref (e .matrix))) (additions 4 (e .columns) (rref (e .matrix)))
+    line : (i : ℕ) → entryLine i rows columns n added ≡ entryLine i (e .rows) (e .columns) (rank (rref (e .matrix))) (additions window (e .columns) (rref (e .matrix)))
     line i =
         ap₂ (λ (x y : ℕ). entryLine i x y n added) (sym er) (sym ec) ∙ ap₂ (entryLine i (e .rows) (e .columns)) (sym en) (sym ea)
 

@@ -1,12 +1,12 @@
 -- The report of any input is shorter than the buffer that it is put in.
-use mathlib.Core.Path.{_≡_, refl, sym, ap, ap₂, _∙_, subst}
+use mathlib.Core.Path.{_≡_, refl, sym, ap, _∙_, subst}
 use mathlib.Core.Bool.{Bool, true, false, cond}
 use mathlib.Core.List.{List, [], _∷_, _++_}
-use Prim.Native.Nat.{ℕ, zero, suc, _+_, _-_, _*_, _/_, _%_, _≤_}
-use native.Mathlib.Nat.{mul-le-mul-left, mul-assoc, mul-comm, suc-mul}
+use Prim.Native.Nat.{ℕ, zero, suc, _+_, _*_, _/_, _%_, _≤_}
+use native.Mathlib.Nat.{le-trans, mul-le-mul-left, mul-assoc, mul-comm, zero-mul, suc-mul}
 use native.Mathlib.Omega.{arith}
 use lib.Dec.{eqb, ltb, lit≤}
-use lib.ListN.{length, take, length-append}
+use lib.ListN.{length, drop, length-append}
 use Rattle.gf2.specs.Reduced.{rank}
 use Rattle.gf2.specs.Additions.{additions}
 use Rattle.gf2.specs.Rref.{rref}
@@ -15,28 +15,27 @@ use Rattle.words.specs.Words.{wordsOf}
 use Rattle.refusals.specs.declared.Outcome.{Outcome}
 use Rattle.refusals.specs.declared.Outcome.the-variants.{Done, Refused}
 use Rattle.refusals.specs.Outcome.{numberOf}
-use Rattle.bundle.specs.Bundle.{Entry, bodyWords, headBytes, countOf, rowsAt, columnsAt, wordsIn, matrixAt, bothKinds, entriesChecks, bundleChecks, entryAt, entriesFrom, entriesOf, Meaning, refused, bundle, meantBy, meaning}
-use Rattle.bundle.specs.Answers.{countEntries}
-use Rattle.bundle.proofs.Passing.{Shaped, entries-step, accepted, Accepted}
+use Rattle.bundle.specs.Bundle.{Entry, bodyWords, headBytes, countOf, wordsIn, bothKinds, entriesChecks, bundleChecks, entryAt, entriesFrom, entriesOf, meantBy, meaning, Shaped, Accepted}
+use Rattle.bundle.proofs.Passing.{entries-step, entries-end, accepted}
 use Rattle.bundle.proofs.Bodies.{length-matrix}
-use Rattle.text.specs.Text.{ascii, newline, digits, decimal, bits}
+use Rattle.text.specs.Text.{ascii, newline, shortest, decimal, bits}
 use Rattle.text.specs.Put.{Put}
 use Rattle.text.proofs.Putting.{put-all}
-use Rattle.desk.specs.Desk.{refusedText}
+use Rattle.desk.specs.Desk.{window, refusedText}
 use Rattle.reduce.specs.Report.{entryLine, rowLines, entryText, entriesText, meaningText, report}
 
-length-digits : (d n : ℕ) → length (digits d n) ≤ d
-unfolding digits
-length-digits zero n = lit≤ tt
-length-digits (suc d) n = go (ltb n 10) (length-digits d (n / 10))
+length-shortest : (d n : ℕ) → length (shortest d n) ≤ d
+unfolding shortest
+length-shortest zero n = lit≤ tt
+length-shortest (suc d) n = go (ltb n 10) (length-shortest d (n / 10))
   where
-    go : (t : Bool) → length (digits d (n / 10)) ≤ d → length (cond t ((48 + n) ∷ []) (digits d (n / 10) ++ ((48 + n % 10) ∷ []))) ≤ suc d
+    go : (t : Bool) → length (shortest d (n / 10)) ≤ d → length (cond t ((48 + n) ∷ []) (shortest d (n / 10) ++ ((48 + n % 10) ∷ []))) ≤ suc d
     go true h = omega arith
-    go false h = omega (arith, length-append (digits d (n / 10)) ((48 + n % 10) ∷ []))
+    go false h = omega (arith, length-append (shortest d (n / 10)) ((48 + n % 10) ∷ []))
 
 length-decimal : (n : ℕ) → length (decimal n) ≤ 20
 unfolding decimal
-length-decimal n = length-digits 20 n
+length-decimal n = length-shortest 20 n
 
 length-bits : (c v : ℕ) → length (bits c v) ≡ c
 unfolding bits
@@ -45,7 +44,7 @@ length-bits (suc c) v = ap suc (length-bits c (v / 2))
 
 length-lines : (columns : ℕ) (R : List ℕ) → length (rowLines columns R) ≤ length R * (columns + 1)
 unfolding rowLines
-length-lines columns [] = omega (arith, native.Mathlib.Nat.zero-mul (columns + 1))
+length-lines columns [] = omega (arith, zero-mul (columns + 1))
 length-lines columns (v ∷ R) = go (eqb v 0) (length-lines columns R)
   where
     go : (t : Bool) → length (rowLines columns R) ≤ length R * (columns + 1) → length (cond t (rowLines columns R) (bits columns v ++ newline ++ rowLines columns R)) ≤ suc (length R) * (columns + 1)
@@ -84,8 +83,8 @@ length-entry i e sized s =
     subst (λ (n : ℕ). e .rows * (e .columns + 1) ≤ n) (sym (mul-assoc (e .rows) 65 w) ∙ ap (λ (n : ℕ). n * w) (mul-comm (e .rows) 65) ∙ mul-assoc 65 (e .rows) w) (mul-le-mul-left (e .rows) narrow) in
     omega (
       arith,
-      length-append (entryLine i (e .rows) (e .columns) (rank R) (additions 4 (e .columns) R)) (rowLines (e .columns) R),
-      length-line i (e .rows) (e .columns) (rank R) (additions 4 (e .columns) R),
+      length-append (entryLine i (e .rows) (e .columns) (rank R) (additions window (e .columns) R)) (rowLines (e .columns) R),
+      length-line i (e .rows) (e .columns) (rank R) (additions window (e .columns) R),
       lines,
       wide,
     )
@@ -94,7 +93,7 @@ length-entry i e sized s =
 length-entries : (rule : ℕ → Outcome) (n i j p : ℕ) (b : List ℕ) → entriesChecks rule n i p b ≡ Done → 8 * length (entriesText j (entriesFrom n i b)) + 65 * p ≤ 1112 * n + 65 * length b
 unfolding entriesText entriesFrom entryAt
 length-entries rule zero i j p b e =
-    let z : p ≡ length b = Rattle.bundle.proofs.Passing.entries-end rule i p b e in
+    let z : p ≡ length b = entries-end rule i p b e in
     omega arith
 length-entries rule (suc n) i j p b e =
     let s = entries-step rule n i p b e in
@@ -104,7 +103,7 @@ length-entries rule (suc n) i j p b e =
     let one : length T ≤ 139 + 65 * wordsIn i b = length-entry j E (length-matrix _ _ _ _ b) (s .0 .shape) in
     omega (arith, length-append T (entriesText (j + 1) (entriesFrom n (i + 1) b)), ih, one)
 
--- what the program's buffer holds
+-- no report is longer than this
 pub report-short : (b : List ℕ) → length (report b) ≤ 544768
 unfolding report meaning entriesOf meaningText refusedText ascii
 report-short b = go (bundleChecks bothKinds b) refl
@@ -114,14 +113,17 @@ report-short b = go (bundleChecks bothKinds b) refl
         let a : Accepted bothKinds b = accepted bothKinds b (sym e) in
         let es : List Entry = entriesFrom (countOf b) 0 b in
         let T : List ℕ = entriesText 0 es in
-        let D : List ℕ = ascii "done " ++ decimal (countEntries es) ++ newline in
+        let D : List ℕ = ascii "done " ++ decimal (length es) ++ newline in
         let all : 8 * length T + 65 * headBytes (countOf b) ≤ 1112 * countOf b + 65 * length b = length-entries bothKinds (countOf b) 0 0 (headBytes (countOf b)) b (a .entries) in
         subst (λ (o : Outcome). length (meaningText (meantBy o es)) ≤ 544768) e
-        (omega (arith, length-append T D, length-append (ascii "done " ++ decimal (countEntries es)) newline, field (ascii "done ") (countEntries es), all, a .few, a .short))
+        (omega (arith, length-append T D, length-append (ascii "done " ++ decimal (length es)) newline, field (ascii "done ") (length es), all, a .few, a .short))
     go (Refused r) e =
         subst (λ (o : Outcome). length (meaningText (meantBy o (entriesFrom (countOf b) 0 b))) ≤ 544768) e
         (omega (arith, length-append (ascii "refused " ++ decimal (numberOf r)) newline, field (ascii "refused ") (numberOf r)))
 
--- so the whole report is written
-pub whole-report : (b out out′ : List ℕ) (r : ℕ) → Put 0 (report b) out r out′ → length out ≡ 544768 → take r out′ ≡ report b
-whole-report b out out′ r a l = put-all (report b) out out′ r a (subst (λ (n : ℕ). length (report b) ≤ n) (sym l) (report-short b)) .1
+-- so the program's buffer holds all of it
+pub whole-report : (b out out′ : List ℕ) (r : ℕ) → 544768 ≤ length out → Put 0 (report b) out r out′ → (r ≡ length (report b)) × (out′ ≡ report b ++ drop r out)
+whole-report b out out′ r l a = put-all (report b) out out′ r a (le-trans (report-short b) l)
+
+pub report-ends : (b rest out′ : List ℕ) (r : ℕ) → r ≡ length (report b) → out′ ≡ report b ++ rest → r ≤ length out′
+report-ends b rest out′ r e h = omega (arith, e, ap length h ∙ length-append (report b) rest)

@@ -3,7 +3,7 @@ ghost use mathlib.Core.Path.{_≡_};
 ghost use mathlib.Core.Logic.{_≢_};
 ghost use mathlib.Core.List.{_++_};
 ghost use Prim.Native.Nat.{ℕ, _*_, _≤_, _<_};
-ghost use lib.ListN.{length};
+ghost use lib.ListN.{length, drop};
 ghost use Rattle.gf2.specs.Rows.{row};
 ghost use Rattle.gf2.specs.Rref.{rref};
 ghost use Rattle.words.specs.Words.{wordsOf, rowsOf};
@@ -13,7 +13,7 @@ ghost use Rattle.text.specs.Text.{decimal};
 ghost use Rattle.text.specs.Put.{Put};
 ghost use Rattle.reduce.specs.Report.{entryLine, rowLines, entryText, report};
 use bundle::Counted;
-use desk::Reduced;
+use desk::EntryReduced;
 
 // a name and a number
 fn field(out: &mut [u8], p: usize, name: &[u8], n: usize) -> usize
@@ -43,9 +43,9 @@ fn entry_line(
     text::bytes(out, e, b"\n")
 }
 
-// the first n rows, a line each
+// the first n rows, a line each; none of them is zero
 fn row_lines(out: &mut [u8], p: usize, words: &[u64], n: usize, columns: usize) -> usize
-    requires { ⌜ (p ≤ length (now out)) × (n * wordsOf columns ≤ length (now words)) × ((i : ℕ) → i < n → row (rowsOf (wordsOf columns) n (now words)) i ≢ 0) ⌝ }
+    requires { ⌜ ((i : ℕ) → i < n → row (rowsOf (wordsOf columns) n (now words)) i ≢ 0) × (n * wordsOf columns ≤ length (now words)) × (p ≤ length (now out)) ⌝ }
     ensures { λ r. ⌜ Put p (rowLines columns (rowsOf (wordsOf columns) n (now (words .entry)))) (now (out .entry)) r (now (out .exit)) ⌝ }
 {
     let w = refusals::words(columns);
@@ -76,9 +76,9 @@ fn entry(
     let r = desk::reduce_entry(bytes, i, words, room);
     match r {
         // neither can be: the bundle has been read, and the buffers are long enough for every entry
-        Reduced::Refused(_) => p,
-        Reduced::Unfit => p,
-        Reduced::Entry {
+        EntryReduced::Refused(_) => p,
+        EntryReduced::Unfit => p,
+        EntryReduced::Entry {
             rows,
             columns,
             rank,
@@ -90,10 +90,10 @@ fn entry(
     }
 }
 
-// the whole text
+// the whole text, which every input leaves room for
 pub(crate) fn whole(bytes: &[u8], words: &mut [u64], room: &mut [u64], out: &mut [u8]) -> usize
-    requires { ⌜ (8192 ≤ length (now words)) × (256 ≤ length (now room)) ⌝ }
-    ensures { λ r. ⌜ Put 0 (report (now (bytes .entry))) (now (out .entry)) r (now (out .exit)) ⌝ }
+    requires { ⌜ (8192 ≤ length (now words)) × (256 ≤ length (now room)) × (544768 ≤ length (now out)) ⌝ }
+    ensures { λ r. ⌜ (r ≡ length (report (now (bytes .entry)))) × (now (out .exit) ≡ report (now (bytes .entry)) ++ drop r (now (out .entry))) ⌝ }
 {
     let c = bundle::read(bytes);
     match c {

@@ -4,7 +4,7 @@ use mathlib.Core.Logic.{_≢_}
 use mathlib.Core.Bool.{true, false}
 use Prim.Native.Nat.{ℕ, _+_, _-_, _*_, _/_, _%_, _^_, _≤_, _<_}
 use native.Mathlib.Decide.{ℕ-discrete, decLt}
-use native.Mathlib.Nat.{mul-zero, mul-mod-left, mul-div-cancel, div-add-mod', div-lt-iff-lt-mul, one-mul}
+use native.Mathlib.Nat.{mul-zero, mul-mod-left, mul-div-cancel, div-add-mod', div-lt-iff-lt-mul, one-mul, div-le-self}
 use native.Mathlib.Omega.{arith}
 use borrow.Author.Tests.{eq-eqb, ne-eqb, lt-ltb, le-ltb}
 use lib.Dec.{eqb, ltb, lit<}
@@ -53,7 +53,7 @@ divided room need w h = go (decLt (room / w) need)
 
 pub short-far : (room more k w : ℕ) → w ≢ 0 → 63 < k → room < 2 ^ 64 → true ≡ ltb room ((more + 2 ^ k) * w)
 short-far room more k w h f l =
-    let q : room / w ≤ room = native.Mathlib.Nat.div-le-self room w in
+    let q : room / w ≤ room = div-le-self room w in
     sym (sym (divided room (more + 2 ^ k) w h) ∙ lt-ltb (room / w) (more + 2 ^ k) (omega (arith, pow-mono {i = 64} {j = k} f)))
 
 pub short-few : (room more k w : ℕ) → w ≢ 0 → room / w < more → true ≡ ltb room ((more + 2 ^ k) * w)

@@ -1,11 +1,12 @@
 -- What the checks say: they refuse nothing exactly if each of their conditions fails.
-use mathlib.Core.Path.{_≡_, refl, sym, ap, ap₂, _∙_}
+use mathlib.Core.Path.{_≡_, refl, sym, ap, ap₂, _∙_, subst}
 use mathlib.Core.Bool.{Bool, true, false, not, _&&_}
 use mathlib.Core.List.{List}
 use Prim.Native.Nat.{ℕ, _+_, _-_, _*_, _^_, _≤_, _<_}
 use native.Mathlib.Nat.{zero-add, one-mul}
 use native.Mathlib.Omega.{arith}
 use borrow.Author.Tests.{ltb-false, eqb-false, eqb-true, leb-false, le-ltb, lt-leb, le-leb, eq-eqb, ne-eqb}
+pub use borrow.Author.Tests.{not-false}
 use lib.Dec.{eqb, ltb, leb, lit<}
 use lib.ListN.{length}
 use Rattle.gf2.specs.Rows.{row}
@@ -14,7 +15,7 @@ use Rattle.refusals.specs.declared.Refusal.{Refusal}
 use Rattle.refusals.specs.declared.Refusal.the-variants.{TooManyRows, BadColumns, BadK, WrongLength, DirtyPadding, ShortRoom, BadBlocks, NotSquare, NoInverse, Contradictory, TooWide, NotBelow, WrongBuffer, BundleSize, EntryCount, ContentsCut, BadKind, BadShape, WrongOffset, BodyPast, BytesLeft, ShortOutput, BundleOver}
 use Rattle.refusals.specs.declared.Outcome.{Outcome}
 use Rattle.refusals.specs.declared.Outcome.the-variants.{Done, Refused}
-use Rattle.refusals.specs.Outcome.{numberOf, outcomeNumber, refuseIf, _andThen_}
+use Rattle.refusals.specs.Outcome.{numberOf, outcomeNumber, refuseIf, Decides, _andThen_}
 use Rattle.refusals.specs.Checks.{tooManyRows, badColumns, badK, wrongLength, shortRoom, notBelow, narrow, holdsRows, dirtyPadding, badBlocks, notSquare, tooWide, wrongBuffer, wrongMarks, viewChecks, reductionChecks, inverseShape, inverseChecks, solvingChecks, contradictionShape, contradictionChecks, ReductionPasses, ViewPasses, InversePasses, SolvingPasses, ContradictionPasses}
 use Rattle.refusals.proofs.Padding.{narrow-all, narrow-row}
 
@@ -77,9 +78,16 @@ module _ (o p q : Outcome) where
   pub goes-on : o ≡ Done → p andThen q ≡ o andThen p andThen q
   goes-on e = sym (ap (λ (x : Outcome). x andThen p andThen q) e)
 
-pub not-false : (b : Bool) → not b ≡ false → b ≡ true
-not-false true e = refl
-not-false false e = sym e
+-- what a test decides
+module _ {A : Type 0} (b : Bool) (d : Decides b A) where
+  pub yes-so : b ≡ true → A
+  yes-so e = subst (λ (x : Bool). Decides x A) e d
+
+  pub not-so : b ≡ false → A → ⊥
+  not-so e = subst (λ (x : Bool). Decides x A) e d
+
+pub pos : {n : ℕ} → (n ≡ 0 → ⊥) → 0 < n
+pos h = omega arith
 
 -- ---- the checks of shape
 
@@ -93,9 +101,6 @@ pub columns-done : (columns : ℕ) → badColumns columns ≡ Done → (0 < colu
 columns-done columns e =
     let t = then-done (refuseIf (eqb columns 0) _) (refuseIf (ltb 1024 columns) _) e in
     (pos (eqb-false columns 0 (if-done (eqb columns 0) _ (t .0))), ltb-false 1024 columns (if-done (ltb 1024 columns) _ (t .1)))
-  where
-    pos : (columns ≡ 0 → ⊥) → 0 < columns
-    pos h = omega arith
 
 pub done-columns : (columns : ℕ) → 0 < columns → columns ≤ 1024 → badColumns columns ≡ Done
 done-columns columns h l = done-then (done-if _ (ne-eqb columns 0 (λ e. omega arith))) (done-if _ (le-ltb 1024 columns l))
@@ -104,9 +109,6 @@ pub k-done : (k : ℕ) → badK k ≡ Done → (0 < k) × (k ≤ 8)
 k-done k e =
     let t = then-done (refuseIf (eqb k 0) _) (refuseIf (ltb 8 k) _) e in
     (pos (eqb-false k 0 (if-done (eqb k 0) _ (t .0))), ltb-false 8 k (if-done (ltb 8 k) _ (t .1)))
-  where
-    pos : (k ≡ 0 → ⊥) → 0 < k
-    pos h = omega arith
 
 pub done-k : (k : ℕ) → 0 < k → k ≤ 8 → badK k ≡ Done
 done-k k h l = done-then (done-if _ (ne-eqb k 0 (λ e. omega arith))) (done-if _ (le-ltb 8 k l))
@@ -115,9 +117,6 @@ blocks-done : (n columns : ℕ) → badBlocks n columns ≡ Done → (0 < n) × 
 blocks-done n columns e =
     let t = then-done (refuseIf (eqb n 0) _) (refuseIf (leb columns n) _) e in
     (pos (eqb-false n 0 (if-done (eqb n 0) _ (t .0))), leb-false columns n (if-done (leb columns n) _ (t .1)))
-  where
-    pos : (n ≡ 0 → ⊥) → 0 < n
-    pos h = omega arith
 
 done-blocks : (n columns : ℕ) → 0 < n → n < columns → badBlocks n columns ≡ Done
 done-blocks n columns h l = done-then (done-if _ (ne-eqb n 0 (λ e. omega arith))) (done-if _ (lt-leb columns n l))

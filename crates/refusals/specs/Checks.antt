@@ -1,6 +1,6 @@
--- The checks of shape. A check is a refusal, exactly if its test holds.
+-- The checks of shape. A check is a refusal, exactly if its test holds. The number before each check is that of its refusal, as `numberOf` has it.
 use mathlib.Core.Path.{_≡_}
-use mathlib.Core.Bool.{Bool, true, false, not, _&&_}
+use mathlib.Core.Bool.{Bool, true, not, _&&_}
 use mathlib.Core.List.{List, [], _∷_}
 use Prim.Native.Nat.{ℕ, _+_, _-_, _*_, _^_, _≤_, _<_}
 use lib.Dec.{eqb, ltb, leb}
@@ -11,42 +11,47 @@ use Rattle.refusals.specs.declared.Outcome.{Outcome}
 use Rattle.refusals.specs.declared.Refusal.the-variants.{TooManyRows, BadColumns, BadK, WrongLength, DirtyPadding, ShortRoom, BadBlocks, NotSquare, TooWide, NotBelow, WrongBuffer}
 use Rattle.refusals.specs.Outcome.{refuseIf, _andThen_}
 
+-- 1: over 512 rows
 abbrev pub tooManyRows : ℕ → Outcome
 tooManyRows rows = refuseIf (ltb 512 rows) TooManyRows
 
+-- 2: no column, or over 1,024
 abbrev pub badColumns : ℕ → Outcome
 badColumns columns = refuseIf (eqb columns 0) BadColumns andThen refuseIf (ltb 1024 columns) BadColumns
 
+-- 3: k is 0, or over 8
 abbrev pub badK : ℕ → Outcome
 badK k = refuseIf (eqb k 0) BadK andThen refuseIf (ltb 8 k) BadK
 
--- not exactly rows x words
+-- 4: not exactly rows x words
 abbrev pub wrongLength : ℕ → ℕ → ℕ → Outcome
 wrongLength rows columns len = refuseIf (not (eqb len (rows * wordsOf columns))) WrongLength
 
--- fewer than 2 ^ k rows, and `more` rows besides, as wide as that many columns
+-- 6: fewer than 2 ^ k rows, and `more` rows besides, as wide as that many columns
 abbrev pub shortRoom : ℕ → ℕ → ℕ → ℕ → Outcome
 shortRoom more k columns room = refuseIf (ltb room ((more + 2 ^ k) * wordsOf columns)) ShortRoom
 
--- n blocks leave no payload, or there is no block
+-- 7: there is no block, or n blocks leave no payload
 abbrev pub badBlocks : ℕ → ℕ → Outcome
 badBlocks n columns = refuseIf (eqb n 0) BadBlocks andThen refuseIf (leb columns n) BadBlocks
 
+-- 8: rows and columns differ in number
 abbrev pub notSquare : ℕ → ℕ → Outcome
 notSquare rows columns = refuseIf (not (eqb rows columns)) NotSquare
 
--- packets with an identity adjoined: a column more for each
+-- 11: over 1,024 columns, once an identity is adjoined to the packets: a column more for each
 abbrev pub tooWide : ℕ → ℕ → Outcome
 tooWide columns packets = refuseIf (ltb 1024 (columns + packets)) TooWide
 
--- a buffer to be written that is not exactly rows x words
+-- 13: a buffer to be written that is not exactly rows x words
 abbrev pub wrongBuffer : ℕ → ℕ → ℕ → Outcome
 wrongBuffer rows columns len = refuseIf (not (eqb len (rows * wordsOf columns))) WrongBuffer
 
--- not a mark for each of n blocks
+-- 13: not a mark for each of n blocks
 abbrev pub wrongMarks : ℕ → ℕ → Outcome
 wrongMarks n len = refuseIf (not (eqb len n)) WrongBuffer
 
+-- 12: no such row, or entry: they are numbered from 0
 abbrev pub notBelow : ℕ → ℕ → Outcome
 notBelow i count = refuseIf (leb count i) NotBelow
 
@@ -59,21 +64,23 @@ narrow columns (v ∷ L) = ltb v (2 ^ columns) && narrow columns L
 abbrev pub holdsRows : ℕ → ℕ → List ℕ → Bool
 holdsRows rows columns m = leb (rows * wordsOf columns) (length m) && narrow columns (rowsOf (wordsOf columns) rows m)
 
--- a padding bit is 1, where the length is right
+-- 5: a padding bit is 1, where the length is right
 abbrev pub dirtyPadding : ℕ → ℕ → List ℕ → Outcome
 dirtyPadding rows columns m = refuseIf (not (holdsRows rows columns m)) DirtyPadding
 
 -- ---- the order of the checks, call by call
 
+-- the row view: 1, 2, 4, 12
 abbrev pub viewChecks : ℕ → ℕ → ℕ → ℕ → Outcome
 viewChecks rows columns len i = tooManyRows rows andThen badColumns columns andThen wrongLength rows columns len andThen notBelow i rows
 
+-- the reduction: 1, 2, 3, 4, 6, 5
 abbrev pub reductionChecks : ℕ → ℕ → ℕ → List ℕ → ℕ → Outcome
 reductionChecks rows columns k m room =
     tooManyRows rows andThen badColumns columns andThen badK k andThen wrongLength rows columns (length m) andThen shortRoom 0 k columns room
     andThen dirtyPadding rows columns m
 
--- the inverse: a matrix that is read, a result of as many words; a room for the matrix beside an identity, and the table
+-- the inverse: 1, 2, 8, 3, 4, 13; then 6, 5. A matrix that is read, a result of as many words; a room for the matrix beside an identity, and the table
 abbrev pub inverseShape : ℕ → ℕ → ℕ → ℕ → ℕ → Outcome
 inverseShape rows columns k len result =
     tooManyRows rows andThen badColumns columns andThen notSquare rows columns andThen badK k andThen wrongLength rows columns len
@@ -83,13 +90,13 @@ abbrev pub inverseChecks : ℕ → ℕ → ℕ → List ℕ → ℕ → ℕ → 
 inverseChecks rows columns k m result room =
     inverseShape rows columns k (length m) result andThen shortRoom rows k (rows + columns) room andThen dirtyPadding rows columns m
 
--- solving: an image of n blocks, and their marks
+-- solving: 1, 2, 7, 3, 4, 13, 6, 5. An image of n blocks, and their marks: 13 for either
 abbrev pub solvingChecks : ℕ → ℕ → ℕ → ℕ → List ℕ → ℕ → ℕ → ℕ → Outcome
 solvingChecks rows columns n k m image marks room =
     tooManyRows rows andThen badColumns columns andThen badBlocks n columns andThen badK k andThen wrongLength rows columns (length m)
     andThen wrongBuffer n (columns - n) image andThen wrongMarks n marks andThen shortRoom 0 k columns room andThen dirtyPadding rows columns m
 
--- the contradiction call: the words that name packets; a room for the packets beside an identity, and the table
+-- the contradiction call: 1, 2, 7, 11, 3, 4, 13; then 6, 5. The words that name packets; a room for the packets beside an identity, and the table
 abbrev pub contradictionShape : ℕ → ℕ → ℕ → ℕ → ℕ → ℕ → Outcome
 contradictionShape rows columns n k len named =
     tooManyRows rows andThen badColumns columns andThen badBlocks n columns andThen tooWide columns rows andThen badK k andThen wrongLength rows columns len

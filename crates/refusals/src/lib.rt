@@ -2,7 +2,8 @@
 ghost use mathlib.Core.Path.{_≡_};
 ghost use Prim.Native.Nat.{_+_, _-_, _*_, _%_, _^_, _≤_, _<_};
 ghost use lib.Dec.{eqb, ltb};
-ghost use lib.ListN.{length};
+ghost use lib.ListN.{length, getD};
+ghost use Rattle.gf2.specs.Rows.{part};
 ghost use Rattle.words.specs.Words.{wordsOf, rowsOf};
 ghost use Rattle.refusals.specs.Outcome.{numberOf, outcomeNumber, refuseIf, _andThen_};
 ghost use Rattle.refusals.specs.Checks.{tooManyRows, badColumns, badK, wrongLength, shortRoom, badBlocks, notSquare, tooWide, wrongBuffer, wrongMarks, notBelow, narrow, holdsRows, dirtyPadding, viewChecks, reductionChecks, inverseShape, inverseChecks, solvingChecks, contradictionShape, contradictionChecks};
@@ -38,7 +39,7 @@ pub enum Outcome {
     Refused(Refusal),
 }
 
-// the number that the paper gives a refusal
+// the number of a refusal, by which the requirements list it
 pub fn number(r: Refusal) -> u8
     ensures { λ n. ⌜ n ≡ numberOf r ⌝ }
 {
@@ -111,6 +112,29 @@ pub fn words(columns: usize) -> usize
     } else {
         columns / 64 + 1
     }
+}
+
+// the columns in the last word of a row, 0 where it is full
+pub fn odd_bits(columns: usize) -> usize
+    ensures { λ s. ⌜ s ≡ columns % 64 ⌝ }
+{
+    columns % 64
+}
+
+// word l of the row of w words at place `at`; zero where the row, or the buffer, ends before it
+pub fn word(m: &[u64], at: usize, w: usize, l: usize) -> u64
+    ensures { λ x. ⌜ x ≡ getD (part at w (now (m .entry))) l 0 ⌝ }
+{
+    if w <= l {
+        return 0;
+    }
+    if m.len() <= at {
+        return 0;
+    }
+    if m.len() - at <= l {
+        return 0;
+    }
+    m[at + l]
 }
 
 pub fn too_many_rows(rows: usize) -> Outcome
@@ -222,14 +246,8 @@ pub fn not_below(i: usize, count: usize) -> Outcome
     refuse_if(count <= i, Refusal::NotBelow)
 }
 
-fn odd_bits(columns: usize) -> usize
-    ensures { λ s. ⌜ s ≡ columns % 64 ⌝ }
-{
-    columns % 64
-}
-
 // whether no row has a one past its last column
-fn no_padding(m: &[u64], w: usize, rows: usize, columns: usize) -> bool
+fn is_clean(m: &[u64], w: usize, rows: usize, columns: usize) -> bool
     requires { ⌜ (rows * w ≤ length (now m)) × (w ≡ wordsOf columns) × (0 < w) ⌝ }
     ensures { λ r. ⌜ r ≡ narrow columns (rowsOf w rows (now (m .entry))) ⌝ }
 {
@@ -258,7 +276,7 @@ pub fn holds(m: &[u64], rows: usize, columns: usize) -> bool
     if m.len() / w < rows {
         return false;
     }
-    no_padding(m, w, rows, columns)
+    is_clean(m, w, rows, columns)
 }
 
 pub fn dirty_padding(m: &[u64], rows: usize, columns: usize) -> Outcome
@@ -272,8 +290,9 @@ pub fn view(rows: usize, columns: usize, len: usize, i: usize) -> Outcome
     ensures { λ r. ⌜ r ≡ viewChecks rows columns len i ⌝ }
 {
     let o = too_many_rows(rows).and_then(bad_columns(columns));
-    o.and_then(wrong_length(rows, columns, len))
-        .and_then(not_below(i, rows))
+    let size = wrong_length(rows, columns, len);
+    let below = not_below(i, rows);
+    o.and_then(size).and_then(below)
 }
 
 // the reduction's checks
@@ -283,8 +302,9 @@ pub fn reduction(m: &[u64], rows: usize, columns: usize, k: usize, room: usize) 
     let o = too_many_rows(rows)
         .and_then(bad_columns(columns))
         .and_then(bad_k(k));
-    let p = o.and_then(wrong_length(rows, columns, m.len()))
-        .and_then(short_room(0, k, columns, room));
+    let size = wrong_length(rows, columns, m.len());
+    let short = short_room(0, k, columns, room);
+    let p = o.and_then(size).and_then(short);
     p.and_then(dirty_padding(m, rows, columns))
 }
 
@@ -314,6 +334,7 @@ pub fn inverse(
     let o = inverse_shape(rows, columns, k, m.len(), result);
     match o {
         Outcome::Refused(r) => Outcome::Refused(r),
+        // only now can the sum of the two numbers not wrap
         Outcome::Done => {
             let p = short_room(rows, k, rows + columns, room);
             p.and_then(dirty_padding(m, rows, columns))
@@ -386,6 +407,7 @@ pub fn contradiction(
     let o = contradiction_shape(rows, columns, n, k, m.len(), named);
     match o {
         Outcome::Refused(r) => Outcome::Refused(r),
+        // only now can the sum of the two numbers not wrap
         Outcome::Done => {
             let p = short_room(rows, k, columns + rows, room);
             p.and_then(dirty_padding(m, rows, columns))

@@ -11,10 +11,10 @@ use Rattle.wire.proofs.Bytes.{bytes-num}
 use Rattle.wire.proofs.Orders.{bytes-words}
 use Rattle.refusals.specs.declared.Outcome.{Outcome}
 use Rattle.refusals.specs.declared.Outcome.the-variants.{Done}
-use Rattle.bundle.specs.Bundle.{Entry, headBytes, countOf, kindAt, rowsAt, columnsAt, offsetAt, wordsIn, entriesChecks, bundleChecks, entryAt, entriesFrom, entriesOf}
+use Rattle.bundle.specs.Bundle.{Entry, headBytes, countOf, kindAt, rowsAt, columnsAt, offsetAt, wordsIn, entriesChecks, bundleChecks, entryAt, entriesFrom, entriesOf, Accepted}
 use Rattle.bundle.proofs.Bodies.{flat-matrix}
 use Rattle.bundle.proofs.Meaning.{count-from}
-use Rattle.bundle.proofs.Passing.{entries-step, entries-end, Accepted, accepted}
+use Rattle.bundle.proofs.Passing.{entries-step, entries-end, accepted}
 use Rattle.pack.specs.Encode.{headOf, contentsOf, bodyOf, bodiesOf, encode}
 
 head-again : (i : ℕ) (b : List ℕ) → Bytes b → headBytes (i + 1) ≤ length b

@@ -18,10 +18,9 @@ use Rattle.refusals.specs.declared.Outcome.the-variants.{Done}
 use Rattle.refusals.specs.Checks.{narrow}
 use Rattle.refusals.proofs.Padding.{narrow-row}
 use Rattle.refusals.proofs.Passed.{done-then, done-same}
-use Rattle.bundle.specs.Bundle.{Entry, bodyWords, headBytes, countOf, kindAt, rowsAt, columnsAt, offsetAt, wordsIn, matrixAt, entryChecks, entriesChecks, bundleChecks, entryAt, entriesFrom, entriesOf}
-use Rattle.bundle.specs.Answers.{countEntries}
+use Rattle.bundle.specs.Bundle.{Entry, bodyWords, headBytes, countOf, kindAt, rowsAt, columnsAt, offsetAt, wordsIn, matrixAt, entryChecks, entriesChecks, bundleChecks, entryAt, entriesFrom, entriesOf, Shaped}
 use Rattle.bundle.proofs.Bodies.{rows-again}
-use Rattle.bundle.proofs.Passing.{Shaped, entry-passes, bundle-passes}
+use Rattle.bundle.proofs.Passing.{entry-passes, bundle-passes}
 use Rattle.pack.specs.Encode.{headOf, contentsOf, bodyOf, bodiesOf, encode}
 use Rattle.pack.proofs.Lengths.{length-head, length-contents, length-body}
 
@@ -171,9 +170,9 @@ same-entry e i p b s =
     ∙ ap₂ (λ (r c : ℕ). make (e .kind) r c (matrixAt (e .kind) p r c b)) (s .rows) (s .columns) ∙ ap (make (e .kind) (e .rows) (e .columns)) (s .matrix)
 
 entries-again : (rule : ℕ → Outcome) (es : List Entry) (i p : ℕ) (pre mid b : List ℕ) → Propers rule es → length pre ≡ headBytes i
-    → p ≡ headBytes (i + countEntries es) + length mid → length b ≤ 65535 → b ≡ pre ++ (contentsOf p es ++ (mid ++ bodiesOf es))
-    → (entriesChecks rule (countEntries es) i p b ≡ Done) × (entriesFrom (countEntries es) i b ≡ es)
-unfolding contentsOf bodiesOf countEntries entriesChecks entriesFrom
+    → p ≡ headBytes (i + length es) + length mid → length b ≤ 65535 → b ≡ pre ++ (contentsOf p es ++ (mid ++ bodiesOf es))
+    → (entriesChecks rule (length es) i p b ≡ Done) × (entriesFrom (length es) i b ≡ es)
+unfolding contentsOf bodiesOf entriesChecks entriesFrom
 entries-again rule [] i p pre mid b ps lp ep short eb =
     let q : length b ≡ length pre + (length mid + 0) = ap length eb ∙ length-append pre (mid ++ []) ∙ ap (λ (k : ℕ). length pre + k) (length-append mid []) in
     (done-same _ p (length b) (omega (arith, q, lp, ep)), refl)
@@ -187,16 +186,16 @@ entries-again rule (e ∷ es) i p pre mid b (one pr ps) lp ep short eb =
     (lH rule e i p pre C mid B b pr lp ep′ short eb) (omega (arith, ep, lX rule e i p pre C mid B b pr lp ep′ short eb)) short
     (b₇ rule e i p pre C mid B b pr lp ep′ short eb) in
     let size : wordsIn i b ≡ n = ap₂ bodyWords (s .rows) (s .columns) in (
-      done-then (passes rule e i p b pr s) (ap (λ (k : ℕ). entriesChecks rule (countEntries es) (i + 1) (p + 8 * k) b) size ∙ ih .0),
+      done-then (passes rule e i p b pr s) (ap (λ (k : ℕ). entriesChecks rule (length es) (i + 1) (p + 8 * k) b) size ∙ ih .0),
       ap₂ (λ (x : Entry) (xs : List Entry). x ∷ xs) (same-entry e i p b s) (ih .1),
     )
 
 -- a written bundle is accepted, and its entries are those written
-pub read-again : (rule : ℕ → Outcome) (es : List Entry) → Propers rule es → 0 < countEntries es → countEntries es ≤ 64 → length (encode es) ≤ 65535
+pub read-again : (rule : ℕ → Outcome) (es : List Entry) → Propers rule es → 0 < length es → length es ≤ 64 → length (encode es) ≤ 65535
     → (bundleChecks rule (encode es) ≡ Done) × (entriesOf (encode es) ≡ es)
 unfolding encode entriesOf
 read-again rule es ps any few short =
-    let n : ℕ = countEntries es in
+    let n : ℕ = length es in
     let p : ℕ = headBytes n in
     let b : List ℕ = encode es in
     let c : countOf b ≡ n = num-at 2 0 n [] (contentsOf p es ++ bodiesOf es) refl (two n (omega arith)) in

@@ -18,14 +18,14 @@ use Rattle.refusals.specs.Outcome.{_andThen_}
 use Rattle.refusals.specs.Checks.{narrow}
 use Rattle.refusals.proofs.Passed.{then-done}
 use Rattle.bundle.specs.Bundle.{Entry, bodyWords, badShape, bundle, meaning}
-use Rattle.bundle.specs.Answers.{countEntries, countedIn, Found, found, fitting, entryIn, find, toldOf, lentFor, unpackedOf}
+use Rattle.bundle.specs.Answers.{countedIn, Found, found, fitting, entryIn, find, toldOf, lentFor, lentEntry, unpackedOf}
 use Rattle.bundle.specs.declared.Counted.the-variants as counted
 use Rattle.bundle.specs.declared.Told.the-variants as told
 use Rattle.bundle.proofs.Passing.{shaped}
 use Rattle.pack.specs.Encode.{encode}
-use Rattle.pack.specs.Writing.{given, shapesChecks, allWords, allNarrow, writeChecks}
+use Rattle.pack.specs.Writing.{given, shapesChecks, allWords, allNarrow, writeChecks, Writable}
 use Rattle.pack.proofs.Lengths.{count-given, length-encode}
-use Rattle.pack.proofs.Passing.{Writable, writable}
+use Rattle.pack.proofs.Passing.{writable}
 use Rattle.roundtrip.specs.Trips.{startOf}
 use Rattle.roundtrip.proofs.FromEntries.{Propers, none, one, read-again}
 use Rattle.bundle.proofs.Exactly.{means}
@@ -78,7 +78,7 @@ module _ (rule : ℕ → Outcome) (ks rs cs ws : List ℕ) (room : ℕ) (fit : F
   pub given-again : meaning rule (encode (given ks rs cs ws)) ≡ bundle (given ks rs cs ws)
   given-again =
       let v : Writable rule ks rs cs ws room = writable rule ks rs cs ws room done in
-      let c : countEntries (given ks rs cs ws) ≡ length ks = count-given ks rs cs ws (v .rows-too) (v .columns-too) in
+      let c : length (given ks rs cs ws) ≡ length ks = count-given ks rs cs ws (v .rows-too) (v .columns-too) in
       let t = read-again rule (given ks rs cs ws) (propers-given rule ks rs cs ws small (v .shapes) (v .clean)) (omega (arith, v .any, c)) (omega (arith, v .few, c))
       (omega (arith, v .short, length-encode ks rs cs ws (v .rows-too) (v .columns-too) (v .words-fit))) in
       means rule (encode (given ks rs cs ws)) (given ks rs cs ws) (t .0) (t .1)
@@ -107,15 +107,15 @@ module _ (rule : ℕ → Outcome) (ks rs cs ws : List ℕ) (room : ℕ) (fit : F
 
     -- and its words
     pub unpacks-again : (words : List ℕ) → length words ≡ bodyWords (getD rs i 0) (getD cs i 0)
-        → (toldOf (lentFor (length words) (find i (meaning rule (encode (given ks rs cs ws))))) ≡ told.Entry (getD ks i 0) (getD rs i 0) (getD cs i 0))
-        × (unpackedOf (lentFor (length words) (find i (meaning rule (encode (given ks rs cs ws))))) words ≡ take (length words) (drop (startOf i rs cs) ws))
+        → (toldOf (lentEntry rule i (encode (given ks rs cs ws)) words) ≡ told.Entry (getD ks i 0) (getD rs i 0) (getD cs i 0))
+        × (unpackedOf (lentEntry rule i (encode (given ks rs cs ws)) words) words ≡ take (length words) (drop (startOf i rs cs) ws))
     unfolding lentFor toldOf unpackedOf bodyWords
     unpacks-again words l =
         let v : Writable rule ks rs cs ws room = writable rule ks rs cs ws room done in
         let r : ℕ = getD rs i 0 in
         let c : ℕ = getD cs i 0 in
         let rest : List ℕ = drop (startOf i rs cs) ws in
-        let s : lentFor (length words) (find i (meaning rule (encode (given ks rs cs ws)))) ≡ found E =
+        let s : lentEntry rule i (encode (given ks rs cs ws)) words ≡ found E =
         ap (lentFor (length words)) found-again ∙ ap (λ (t : Bool). fitting t E) (eq-eqb (length words) (r * wordsOf c) l) in
         let inside : startOf i rs cs + r * wordsOf c ≤ length ws =
         subst (λ (k : ℕ). startOf i rs cs + r * wordsOf c ≤ k) (v .words-fit) (within rs cs i (omega (arith, v .rows-too)) (omega (arith, v .columns-too))) in (

@@ -1,4 +1,4 @@
--- An accepted bundle, unpacked and written, gives the same bytes: the lists that unpacking gives say its entries again.
+-- Unpack every entry of an accepted bundle and write them again, and its bytes come back: the lists that unpacking gives say its entries again.
 use mathlib.Core.Path.{_≡_, refl, sym, ap, ap₂, _∙_, subst}
 use mathlib.Core.Bool.{true, _&&_}
 use mathlib.Core.List.{List, [], _∷_, _++_}
@@ -17,15 +17,15 @@ use Rattle.refusals.specs.declared.Outcome.{Outcome}
 use Rattle.refusals.specs.declared.Outcome.the-variants.{Done}
 use Rattle.refusals.specs.Checks.{narrow}
 use Rattle.refusals.proofs.Passed.{done-then}
-use Rattle.bundle.specs.Bundle.{Entry, bodyWords, headBytes, countOf, kindAt, rowsAt, columnsAt, offsetAt, wordsIn, matrixAt, entriesChecks, entryAt, entriesFrom, entriesOf, bundle, meaning}
-use Rattle.bundle.specs.Answers.{countEntries, find, toldOf, lentFor, unpackedOf}
+use Rattle.bundle.specs.Bundle.{Entry, bodyWords, headBytes, countOf, kindAt, rowsAt, columnsAt, offsetAt, wordsIn, matrixAt, entriesChecks, entryAt, entriesFrom, entriesOf, bundle, meaning, Accepted}
+use Rattle.bundle.specs.Answers.{toldOf, lentEntry, unpackedOf}
 use Rattle.bundle.specs.declared.Told.the-variants as told
-use Rattle.bundle.proofs.Passing.{shape-passes, entries-step, Accepted, accepted}
+use Rattle.bundle.proofs.Passing.{shape-passes, entries-step, accepted}
 use Rattle.pack.specs.Encode.{encode}
-use Rattle.pack.specs.Writing.{given, shapesChecks, allWords, allNarrow, bundleBytes, writeChecks, outputBy}
+use Rattle.pack.specs.Writing.{given, shapesChecks, allWords, allNarrow, bundleBytes, writeChecks, outputBy, output}
 use Rattle.pack.proofs.Lengths.{length-encode}
 use Rattle.pack.proofs.Passing.{write-passes}
-use Rattle.roundtrip.specs.Trips.{kindsOf, rowsListOf, columnsOf, wordsOfAll, startOf}
+use Rattle.roundtrip.specs.Trips.{kindsOf, rowCountsOf, columnCountsOf, wordsOfAll, startOf}
 use Rattle.roundtrip.proofs.FromBytes.{written-again}
 use Rattle.bundle.proofs.Bodies.{rows-again}
 use Rattle.refusals.proofs.Padding.{narrow-row}
@@ -51,12 +51,12 @@ proper-entries rule (suc k) i p b f e =
 
 -- what the four lists say
 record Lists (rule : ℕ → Outcome) (es : List Entry) : Type 0 where
-  pub back : given (kindsOf es) (rowsListOf es) (columnsOf es) (wordsOfAll es) ≡ es
-  pub many : length (kindsOf es) ≡ countEntries es
-  pub rows-too : length (rowsListOf es) ≡ length (kindsOf es)
-  pub columns-too : length (columnsOf es) ≡ length (kindsOf es)
-  pub shapes : shapesChecks rule (kindsOf es) (rowsListOf es) (columnsOf es) ≡ Done
-  pub total : allWords (rowsListOf es) (columnsOf es) ≡ length (wordsOfAll es)
+  pub back : given (kindsOf es) (rowCountsOf es) (columnCountsOf es) (wordsOfAll es) ≡ es
+  pub many : length (kindsOf es) ≡ length es
+  pub rows-too : length (rowCountsOf es) ≡ length (kindsOf es)
+  pub columns-too : length (columnCountsOf es) ≡ length (kindsOf es)
+  pub shapes : shapesChecks rule (kindsOf es) (rowCountsOf es) (columnCountsOf es) ≡ Done
+  pub total : allWords (rowCountsOf es) (columnCountsOf es) ≡ length (wordsOfAll es)
   pub clean : allNarrow es ≡ true
   pub small : (i : ℕ) → getD (kindsOf es) i 0 < 65536
   pub fit : Fit (wordsOfAll es)
@@ -66,7 +66,7 @@ small-cons k ks h f zero = h
 small-cons k ks h f (suc i) = f i
 
 lists : (rule : ℕ → Outcome) (es : List Entry) → Propers rule es → Lists rule es
-unfolding kindsOf rowsListOf columnsOf wordsOfAll given shapesChecks allWords allNarrow countEntries bodyWords
+unfolding wordsOfAll given shapesChecks allWords allNarrow bodyWords
 lists rule [] ps = record { back = refl; many = refl; rows-too = refl; columns-too = refl; shapes = refl; total = refl; clean = refl; small = λ i. lit< tt; fit = λ i. lit< tt }
 lists rule (e ∷ es) (one pr ps) =
     let F : Lists rule es = lists rule es ps in
@@ -77,7 +77,7 @@ lists rule (e ∷ es) (one pr ps) =
     let m : rowsOf w (e .rows) (X ++ wordsOfAll es) ≡ e .matrix = rows-front w (e .rows) X (wordsOfAll es) (omega arith) ∙ rows-again e (pr .size) (narrow-row (e .columns) (e .matrix) (pr .clean)) in
     record {
       back =
-          ap₂ (λ (M ws : List ℕ). record { kind = e .kind; rows = e .rows; columns = e .columns; matrix = M } ∷ given (kindsOf es) (rowsListOf es) (columnsOf es) ws) m
+          ap₂ (λ (M ws : List ℕ). record { kind = e .kind; rows = e .rows; columns = e .columns; matrix = M } ∷ given (kindsOf es) (rowCountsOf es) (columnCountsOf es) ws) m
           (drop-at X (wordsOfAll es) n l)
           ∙ ap (λ (xs : List Entry). e ∷ xs) (F .back);
       many = ap suc (F .many);
@@ -95,10 +95,10 @@ module _ (rule : ℕ → Outcome) (b : List ℕ) (es : List Entry) (f : Bytes b)
   K = kindsOf es
 
   abbrev R : List ℕ
-  R = rowsListOf es
+  R = rowCountsOf es
 
   abbrev C : List ℕ
-  C = columnsOf es
+  C = columnCountsOf es
 
   abbrev W : List ℕ
   W = wordsOfAll es
@@ -112,7 +112,7 @@ module _ (rule : ℕ → Outcome) (b : List ℕ) (es : List Entry) (f : Bytes b)
 
   many : length K ≡ countOf b
   unfolding entriesOf
-  many = F .many ∙ ap countEntries (sym (meant rule b es e .1)) ∙ count-from (countOf b) 0 b
+  many = F .many ∙ ap length (sym (meant rule b es e .1)) ∙ count-from (countOf b) 0 b
 
   same : encode (given K R C W) ≡ b
   same = ap encode (F .back ∙ sym (meant rule b es e .1)) ∙ written-again rule b f (meant rule b es e .0)
@@ -135,17 +135,15 @@ module _ (rule : ℕ → Outcome) (b : List ℕ) (es : List Entry) (f : Bytes b)
 
   -- the writer takes the lists, they give the entries, and it writes the bundle and nothing past it
   pub same-bytes : (out : List ℕ) → length b ≤ length out
-      → (writeChecks rule (kindsOf es) (rowsListOf es) (columnsOf es) (wordsOfAll es) (length out) ≡ Done)
-      × (given (kindsOf es) (rowsListOf es) (columnsOf es) (wordsOfAll es) ≡ es)
-      × (outputBy (writeChecks rule (kindsOf es) (rowsListOf es) (columnsOf es) (wordsOfAll es) (length out))
-      (encode (given (kindsOf es) (rowsListOf es) (columnsOf es) (wordsOfAll es))) out
-      ≡ b ++ drop (length b) out)
+      → (writeChecks rule (kindsOf es) (rowCountsOf es) (columnCountsOf es) (wordsOfAll es) (length out) ≡ Done)
+      × (given (kindsOf es) (rowCountsOf es) (columnCountsOf es) (wordsOfAll es) ≡ es)
+      × (output rule (kindsOf es) (rowCountsOf es) (columnCountsOf es) (wordsOfAll es) out ≡ b ++ drop (length b) out)
   unfolding outputBy
   same-bytes out h = (passes (length out) h, F .back, ap₂ (λ (o : Outcome) (xs : List ℕ). outputBy o xs out) (passes (length out) h) same)
 
   -- the lists are those that the calls give: entry i has its numbers at place i, and its words after those of the entries before it
-  pub unpacked : (i : ℕ) → i < countOf b → (words : List ℕ) → length words ≡ bodyWords (getD (rowsListOf es) i 0) (getD (columnsOf es) i 0)
-      → (toldOf (lentFor (length words) (find i (meaning rule b))) ≡ told.Entry (getD (kindsOf es) i 0) (getD (rowsListOf es) i 0) (getD (columnsOf es) i 0))
-      × (unpackedOf (lentFor (length words) (find i (meaning rule b))) words ≡ take (length words) (drop (startOf i (rowsListOf es) (columnsOf es)) (wordsOfAll es)))
+  pub unpacked : (i : ℕ) → i < countOf b → (words : List ℕ) → length words ≡ bodyWords (getD (rowCountsOf es) i 0) (getD (columnCountsOf es) i 0)
+      → (toldOf (lentEntry rule i b words) ≡ told.Entry (getD (kindsOf es) i 0) (getD (rowCountsOf es) i 0) (getD (columnCountsOf es) i 0))
+      × (unpackedOf (lentEntry rule i b words) words ≡ take (length words) (drop (startOf i (rowCountsOf es) (columnCountsOf es)) (wordsOfAll es)))
   unpacked i h words l =
       rw same at (unpacks-again rule K R C W (length b) (F .fit) (F .small) (passes (length b) (omega arith)) i (omega (arith, many)) words l)

@@ -1,22 +1,20 @@
 -- What unpacking a bundle entry by entry gives: the lists that the writer takes.
-use mathlib.Core.List.{List, [], _∷_, _++_}
+use mathlib.Core.List.{List, [], _∷_, _++_, map}
 use Prim.Native.Nat.{ℕ}
 use lib.ListN.{take}
 use Rattle.words.specs.Words.{wordsOf, flat}
 use Rattle.bundle.specs.Bundle.{Entry}
 use Rattle.pack.specs.Writing.{allWords}
 
-unfoldable pub kindsOf : List Entry → List ℕ
-kindsOf [] = []
-kindsOf (e ∷ es) = e .kind ∷ kindsOf es
+-- the lists of their numbers
+abbrev pub kindsOf : List Entry → List ℕ
+kindsOf es = map (λ (e : Entry). e .kind) es
 
-unfoldable pub rowsListOf : List Entry → List ℕ
-rowsListOf [] = []
-rowsListOf (e ∷ es) = e .rows ∷ rowsListOf es
+abbrev pub rowCountsOf : List Entry → List ℕ
+rowCountsOf es = map (λ (e : Entry). e .rows) es
 
-unfoldable pub columnsOf : List Entry → List ℕ
-columnsOf [] = []
-columnsOf (e ∷ es) = e .columns ∷ columnsOf es
+abbrev pub columnCountsOf : List Entry → List ℕ
+columnCountsOf es = map (λ (e : Entry). e .columns) es
 
 -- the words of all bodies in the order of kind 1, one body after the other
 unfoldable pub wordsOfAll : List Entry → List ℕ

@@ -1,5 +1,5 @@
 -- The sheet of examples P1 to P11: what is asked, how the definitions answer, and the table of what they must answer.
-use mathlib.Core.Bool.{Bool, true, false}
+use mathlib.Core.Bool.{Bool, true, false, cond}
 use mathlib.Core.List.{List, [], _∷_, map}
 use Prim.Native.Char.{code}
 use Prim.Native.Nat.{ℕ, _+_, _-_, _*_, _^_}
@@ -9,14 +9,13 @@ use Rattle.gf2.specs.Reduced.{pivots}
 use Rattle.gf2.specs.Rref.{rref}
 use Rattle.gf2.specs.Additions.{totalTo, tableAdditions, additions}
 use Rattle.gf2.specs.Inverse.{tabulate, adjoin, rightOf, same, beginsWithIdentity}
-use Rattle.images.specs.ReadOff.{ifThen, hasPivot, contradictory, known, content, named}
+use Rattle.images.specs.ReadOff.{hasPivot, contradictory, known, content, named}
 
 -- ---- rows as they are written: column 0 first, a bar before the payload
 
 unfoldable pub written : String → ℕ
-unfolding ifThen
 written end = 0
-written (c then s) = ifThen (eqb (code c) (code "|")) (written s) (code c - code "0" + 2 * written s)
+written (c then s) = cond (eqb (code c) (code "|")) (written s) (code c - code "0" + 2 * written s)
 
 unfoldable pub rows : List String → List ℕ
 unfolding written
@@ -43,6 +42,7 @@ pub data Answer : Type 0 where
   inverse : List ℕ → Answer
   noInverse : Answer
   met : List Block → Answer
+  -- contradictory; and what would be known of each block
   refused : List Block → Answer
   names : ℕ → Answer
 

@@ -7,9 +7,8 @@ use native.Mathlib.Decide.{decLt}
 use native.Mathlib.Omega.{arith}
 use lib.Dec.{lit<, lit≤}
 use borrow.Author.Tests.{lt-ltb, le-ltb}
-use Rattle.io.specs.Digits.{Fewest, glyph}
-use Rattle.io.specs.Digits.{digits as spelled}
-use Rattle.text.specs.Text.{digits, decimal}
+use Rattle.io.specs.Digits.{Fewest, glyph, digits}
+use Rattle.text.specs.Text.{shortest, decimal}
 
 glyph-ten : (d : ℕ) → d < 10 → glyph d ≡ 48 + d
 glyph-ten d h = simp (lt-ltb d 10 h)
@@ -19,8 +18,8 @@ ten-pos zero = lit< tt
 ten-pos (suc k) = let h : 0 < 10 ^ k = ten-pos k in omega arith
 
 -- n takes k digits, of which d are allowed
-spells : (k d n : ℕ) → k ≤ d → n < 10 ^ suc k → (0 < k → 10 ^ k ≤ n) → digits (suc d) n ≡ spelled 10 (suc k) n
-unfolding digits
+spells : (k d n : ℕ) → k ≤ d → n < 10 ^ suc k → (0 < k → 10 ^ k ≤ n) → shortest (suc d) n ≡ digits 10 (suc k) n
+unfolding shortest
 spells zero d n h small large =
     let l : n < 10 = omega arith in
     let m : n ≡ n % 10 = omega arith in
@@ -66,7 +65,7 @@ few k n small large = go (decLt k 20)
         let g : 10 ^ 20 ≤ 10 ^ k = subst (λ (x : ℕ). 10 ^ 20 ≤ 10 ^ x) e (grows (k - 20)) in
         absurd (over n (10 ^ k) small large g)
 
-pub fewest-decimal : (n k : ℕ) → n < 2 ^ 64 → Fewest 10 1 n k → spelled 10 k n ≡ decimal n
+pub fewest-decimal : (n k : ℕ) → n < 2 ^ 64 → Fewest 10 1 n k → digits 10 k n ≡ decimal n
 unfolding decimal
 fewest-decimal n zero small f = absurd (omega (arith, f .0))
 fewest-decimal n (suc k) small f = sym (spells k 19 n (short k large) (f .1) large)

@@ -1,6 +1,6 @@
 -- Text put after text is the longer text put at once; what a byte, a run of bytes and a row of digits add.
 use mathlib.Core.Path.{_≡_, sym, ap, ap₂, _∙_, subst}
-use mathlib.Core.List.{List, [], _∷_, _++_}
+use mathlib.Core.List.{List, [], _∷_, _++_, append-nil}
 use Prim.Native.Nat.{ℕ, zero, suc, _+_, _-_, _/_, _%_, _^_, _<_, _≤_, min}
 use native.Mathlib.Decide.{decLt}
 use native.Mathlib.Nat.{div-one}
@@ -8,7 +8,7 @@ use native.Mathlib.Numerals.{add-one}
 use native.Mathlib.Omega.{arith}
 use lib.Pow.{shr-shr}
 use lib.ListN.{length, take, drop, getD, set, length-append, length-take, length-drop, length-set, take-append-drop, drop-of-length-le}
-use lib.Seq.{take-at, take-all, take-suc, take-suc-set, drop-set-lt, append-snoc}
+use lib.Seq.{take-nil, take-all, take-suc, take-suc-set, drop-set-lt, append-snoc}
 use Rattle.gf2.specs.Rows.{bit}
 use Rattle.text.specs.Text.{bits}
 use Rattle.text.specs.Put.{over, Put}
@@ -25,7 +25,7 @@ pub over-none : (p : ℕ) (out : List ℕ) → over p [] out ≡ out
 unfolding over
 over-none p out =
     let z : p + 0 ≡ p = omega arith in
-    ap₂ (λ (l : List ℕ) (k : ℕ). take p out ++ (l ++ drop k out)) (lib.Seq.take-nil (length out - p)) z ∙ take-append-drop p out
+    ap₂ (λ (l : List ℕ) (k : ℕ). take p out ++ (l ++ drop k out)) (take-nil (length out - p)) z ∙ take-append-drop p out
 
 pub over-full : (p : ℕ) (xs out : List ℕ) → length out ≤ p → over p xs out ≡ out
 unfolding over
@@ -33,7 +33,7 @@ over-full p xs out h =
     let z : length out - p ≡ 0 = omega arith in
     ap₂ (λ (l m : List ℕ). l ++ m) (take-all p out h)
     (ap₂ (λ (l m : List ℕ). l ++ m) (ap (λ (k : ℕ). take k xs) z) (drop-of-length-le out {i = p + length xs} (omega arith)))
-    ∙ mathlib.Core.List.append-nil out
+    ∙ append-nil out
 
 -- a byte, where there is room
 pub over-byte : (p x : ℕ) (xs out : List ℕ) → p < length out → over p (x ∷ xs) out ≡ over (p + 1) xs (set out p x)
@@ -94,13 +94,14 @@ put-then {p} {r} {r′} {s} {t} {out} {out′} {out″} a b =
 pub put-within : {p r : ℕ} {s out out′ : List ℕ} → Put p s out r out′ → r ≤ length out′
 put-within {p} {r} {s} {out} {out′} a = omega (arith, a .ends, ap length (a .holds) ∙ length-over p s out)
 
--- a text that there is room for is there, whole
-pub put-all : (s out out′ : List ℕ) (r : ℕ) → Put 0 s out r out′ → length s ≤ length out → (r ≡ length s) × (take r out′ ≡ s)
+-- a text that there is room for is put whole, and what is past it stays
+pub put-all : (s out out′ : List ℕ) (r : ℕ) → Put 0 s out r out′ → length s ≤ length out → (r ≡ length s) × (out′ ≡ s ++ drop r out)
 unfolding over
 put-all s out out′ r a h =
     let e : r ≡ length s = omega (arith, a .ends, h) in
     let whole : take (length out - 0) s ≡ s = take-all (length out - 0) s (omega arith) in
-    (e, ap (take r) (a .holds ∙ ap (λ (l : List ℕ). l ++ drop (0 + length s) out) whole) ∙ take-at s (drop (0 + length s) out) r (sym e))
+    let ends : 0 + length s ≡ r = omega arith in
+    (e, a .holds ∙ ap₂ (λ (l : List ℕ) (k : ℕ). l ++ drop k out) whole ends)
 
 pub put-none : (p : ℕ) (out : List ℕ) → Put p [] out (min p (length out)) out
 put-none p out = record { ends = omega arith; holds = sym (over-none p out) }

@@ -1,8 +1,8 @@
 // Text in a lent buffer. Each call puts its text at byte p, as much as there is room for, and answers where the text ends.
 ghost use mathlib.Core.Path.{_≡_};
 ghost use mathlib.Core.List.{[], _∷_};
-ghost use Prim.Native.Nat.{_+_, _%_, _/_, min};
-ghost use lib.ListN.{length, getD};
+ghost use Prim.Native.Nat.{_+_, min};
+ghost use lib.ListN.{getD};
 ghost use Rattle.gf2.specs.Rows.{bit};
 ghost use Rattle.words.specs.Words.{value};
 ghost use Rattle.text.specs.Text.{decimal as decimalText, bits as bitsText};

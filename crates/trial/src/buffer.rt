@@ -70,6 +70,21 @@ pub fn below(c: usize, j: usize) -> u64 {
     ONES ^ (ONES << (c % 64))
 }
 
+// the first n words, or none where there are fewer
+pub fn part(s: &[u64], n: usize) -> &[u64] {
+    if s.len() < n {
+        return &s[0..0];
+    }
+    &s[0..n]
+}
+
+pub fn part_mut(s: &mut [u64], n: usize) -> &mut [u64] {
+    if s.len() < n {
+        return &mut s[0..0];
+    }
+    &mut s[0..n]
+}
+
 // whether s is how t begins
 pub fn same(s: &[u64], t: &[u64]) -> bool {
     let n = s.len();
@@ -88,15 +103,6 @@ pub fn copy(s: &[u64], t: &mut [u64]) {
     let mut i = 0;
     while i < n {
         put(t, i, get(s, i));
-        i += 1;
-    }
-}
-
-pub fn all_ones(s: &mut [u64]) {
-    let n = s.len();
-    let mut i = 0;
-    while i < n {
-        put(s, i, ONES);
         i += 1;
     }
 }

@@ -1,6 +1,8 @@
 // One call of the reduction, held to everything that it promises.
 use super::buffer;
 use super::plain;
+use super::shape;
+use super::shape::Shape;
 use matrix::Answer;
 
 pub struct Wanted {
@@ -8,6 +10,7 @@ pub struct Wanted {
     pub known: usize,
     pub additions: u64,
     pub zeros: usize,
+    pub pivots: [u64; 512],
 }
 
 impl Wanted {
@@ -18,16 +21,19 @@ impl Wanted {
             known: 0,
             additions: 0,
             zeros: 0,
+            pivots: [65535; 512],
         }
     }
 
     // with that many known blocks
     pub fn with(self, known: usize) -> Wanted {
+        let pivots = self.pivots;
         Wanted {
             rank: self.rank,
             known: known,
             additions: self.additions,
             zeros: self.zeros,
+            pivots: pivots,
         }
     }
 }
@@ -36,24 +42,19 @@ fn pivot(x: u16) -> u64 {
     x as u64
 }
 
-// What the call should answer and leave, with the matrix in m and the pivots in a list of 65,535s: by the plain reduction, or nothing changed beside a refusal.
-pub fn foresee(
-    m: &mut [u64],
-    rows: usize,
-    columns: usize,
-    k: usize,
-    number: u8,
-    pivots: &mut [u64],
-) -> Wanted {
+// What the call should answer and leave, with the matrix in m: by the plain reduction, or nothing changed beside a refusal.
+pub fn foresee(m: &mut [u64], s: Shape, number: u8) -> Wanted {
     if number != 0 {
         return Wanted::nothing();
     }
-    let rank = plain::reduce(m, rows, columns, pivots);
+    let mut pivots = [65535u64; 512];
+    let rank = plain::reduce(m, s.rows, s.columns, &mut pivots);
     Wanted {
         rank: rank,
         known: 0,
-        additions: plain::additions(pivots, rank, buffer::wide(k)),
-        zeros: buffer::place(buffer::pow2(k), buffer::width(columns), 0),
+        additions: plain::additions(&pivots, rank, buffer::wide(s.k)),
+        zeros: buffer::place(buffer::pow2(s.k), buffer::width(s.columns), 0),
+        pivots: pivots,
     }
 }
 
@@ -69,7 +70,7 @@ fn same_pivots(p: &[u16; 512], want: &[u64; 512]) -> bool {
 }
 
 // whether the answer is that number with what was foreseen
-pub fn answered(a: Answer, number: u8, want: Wanted, pivots: &[u64; 512]) -> bool {
+pub fn answered(a: Answer, number: u8, want: Wanted) -> bool {
     let outcome = a.outcome;
     if outcome.number() != number {
         return false;
@@ -78,43 +79,28 @@ pub fn answered(a: Answer, number: u8, want: Wanted, pivots: &[u64; 512]) -> boo
         return false;
     }
     let p = a.pivots;
-    same_pivots(&p, pivots)
+    let q = want.pivots;
+    same_pivots(&p, &q)
 }
 
-// whether the matrix is as foreseen, and the work room zero in that many words and unchanged past them
+// whether the matrix is as foreseen, and the room zero in that many words and unchanged past them
 pub fn left(m: &[u64], copy: &[u64], room: &[u64], zeros: usize) -> bool {
     buffer::same(m, copy) && buffer::zeros_then_ones(room, zeros)
 }
 
-// the call, on a matrix with its copy and a work room of ones
-fn held(
-    m: &mut [u64],
-    copy: &mut [u64],
-    room: &mut [u64],
-    rows: usize,
-    columns: usize,
-    k: usize,
-    number: u8,
-) -> bool {
-    let mut pivots = [65535u64; 512];
-    let want = foresee(copy, rows, columns, k, number, &mut pivots);
-    let zeros = want.zeros;
-    let a = matrix::reduce(m, rows, columns, k, room);
-    let told = answered(a, number, want, &pivots);
-    told & left(m, copy, room, zeros)
+// the call, with a room of ones
+fn held(m: &mut [u64], room: &mut [u64], s: Shape, number: u8) -> bool {
+    let mut copy = [0u64; shape::MATRIX];
+    buffer::copy(m, &mut copy);
+    let want = foresee(&mut copy, s, number);
+    let a = matrix::reduce(m, s.rows, s.columns, s.k, room);
+    left(m, &copy, room, want.zeros) & answered(a, number, want)
 }
 
-// whether the call answers that number (0: done), with all that follows from it; copy has as many words as the matrix, or more
-pub fn right(
-    m: &mut [u64],
-    copy: &mut [u64],
-    room: &mut [u64],
-    rows: usize,
-    columns: usize,
-    k: usize,
-    number: u8,
-) -> bool {
-    buffer::copy(m, copy);
-    buffer::all_ones(room);
-    held(m, copy, room, rows, columns, k, number)
+// whether the call answers that number (0: done), with all that follows from it
+pub fn right(m: &mut [u64], s: Shape, number: u8) -> bool {
+    let mut room = [buffer::ONES; shape::ROOM];
+    let part = buffer::part_mut(m, s.len);
+    let work = buffer::part_mut(&mut room, s.room);
+    held(part, work, s, number)
 }

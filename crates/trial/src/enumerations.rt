@@ -131,61 +131,37 @@ fn list(m: &mut [u64], bits: u64, image: u64, rows: usize, n: usize, p: usize, h
 }
 
 // whether the contradiction call names packets exactly if no image meets the list
-fn named(
-    m: &[u64],
-    copy: &mut [u64],
-    wide: &mut [u64],
-    names: &mut [u64],
-    room: &mut [u64],
-    s: Shape,
-    met: bool,
-) -> bool {
-    let rows = s.rows;
-    if !naming::right(m, copy, wide, names, room, s, 0) {
+fn named(m: &[u64], s: Shape, met: bool) -> bool {
+    let mut names = [0u64; 1];
+    if !naming::right(m, &mut names, s, 0) {
         return false;
     }
-    rows == 0 || keep::first_kept(names) == met
+    s.rows == 0 || keep::first_kept(&names) == met
 }
 
 // whether solving marks exactly what the images that meet the list agree on
-fn solved(
-    m: &mut [u64],
-    copy: &mut [u64],
-    image: &mut [u64],
-    known: &mut [u8],
-    room: &mut [u64],
-    s: Shape,
-    all: Survey,
-) -> bool {
-    if !solving::right(m, copy, image, known, room, s, 0) {
+fn solved(m: &mut [u64], s: Shape, all: Survey) -> bool {
+    let mut image = [0u64; 4];
+    let mut known = [0u8; 4];
+    if !solving::right(m, &mut image, &mut known, s, 0) {
         return false;
     }
     if !all.met {
-        return marks::refused(known);
+        return marks::refused(&known);
     }
-    blocks(all, image, known, s.n, shape::payload(s.columns, s.n))
+    blocks(all, &image, &known, s.n, shape::payload(s.columns, s.n))
 }
 
 // both calls, and the contradiction call once more, for the reduced packets
-fn right(
-    m: &mut [u64],
-    copy: &mut [u64],
-    wide: &mut [u64],
-    image: &mut [u64],
-    known: &mut [u8],
-    room: &mut [u64],
-    to_name: Shape,
-    to_solve: Shape,
-    all: Survey,
-) -> bool {
+fn right(m: &mut [u64], to_name: Shape, to_solve: Shape, all: Survey) -> bool {
     let met = all.met;
-    if !named(m, copy, wide, image, room, to_name, met) {
+    if !named(m, to_name, met) {
         return false;
     }
-    if !solved(m, copy, image, known, room, to_solve, all) {
+    if !solved(m, to_solve, all) {
         return false;
     }
-    named(m, copy, wide, image, room, to_name, met)
+    named(m, to_name, met)
 }
 
 // a list of n blocks of p bits: the c-th one of that size where there are few, else one of many, honest or not
@@ -198,46 +174,24 @@ fn make(m: &mut [u64], rows: usize, n: usize, p: usize, c: usize) {
 }
 
 // case c: for each size all lists where they are few, else some
-fn case(
-    m: &mut [u64],
-    copy: &mut [u64],
-    wide: &mut [u64],
-    image: &mut [u64],
-    known: &mut [u8],
-    room: &mut [u64],
-    c: usize,
-) -> bool {
+fn case(c: usize) -> bool {
+    let mut m = [0u64; 5];
     let n = c / 512 % 4 + 1;
     let p = c / 2048 % 3 + 1;
     let rows = c / 6144 % 6;
     let k = buffer::sum(fill::number(fill::start(c, 6931471), 8), 1);
-    let columns = buffer::sum(n, p);
-    let to_name = shape::naming(rows, columns, n, k);
-    let to_solve = shape::solving(rows, columns, n, k);
-    make(m, rows, n, p, c);
-    let all = surveyed(m, rows, n, p);
-    right(m, copy, wide, image, known, room, to_name, to_solve, all)
+    let to_name = shape::naming(rows, buffer::sum(n, p), n, k);
+    let to_solve = shape::solving(rows, buffer::sum(n, p), n, k);
+    make(&mut m, rows, n, p, c);
+    let all = surveyed(&m, rows, n, p);
+    right(&mut m, to_name, to_solve, all)
 }
 
 pub fn all() -> Tally {
-    let mut m = [0u64; shape::MATRIX];
-    let mut copy = [0u64; shape::MATRIX];
-    let mut wide = [0u64; shape::PACKETS];
-    let mut image = [0u64; shape::MATRIX];
-    let mut known = [0u8; shape::MARKS];
-    let mut room = [0u64; shape::ROOM];
     let mut t = Tally::none();
     let mut c = 0;
     while c < 36864 {
-        t = t.count(case(
-            &mut m,
-            &mut copy,
-            &mut wide,
-            &mut image,
-            &mut known,
-            &mut room,
-            c,
-        ));
+        t = t.count(case(c));
         c += 1;
     }
     t

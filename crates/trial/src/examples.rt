@@ -1,5 +1,4 @@
 // The sheet's examples of inverse, solving and contradiction, P4 to P10, and a list of no packets.
-use super::buffer;
 use super::inversion;
 use super::keep;
 use super::marks;
@@ -18,21 +17,12 @@ struct Example {
     named: u64,
 }
 
-// three words at the start of m
-fn put(m: &mut [u64], words: [u64; 3]) {
-    buffer::put(m, 0, words[0]);
-    buffer::put(m, 1, words[1]);
-    buffer::put(m, 2, words[2]);
+fn same(a: [u64; 3], b: [u64; 3]) -> bool {
+    a[0] == b[0] && a[1] == b[1] && a[2] == b[2]
 }
 
-fn begins(m: &[u64], words: [u64; 3]) -> bool {
-    buffer::get(m, 0) == words[0] && buffer::get(m, 1) == words[1] && buffer::get(m, 2) == words[2]
-}
-
-fn marked(known: &[u8], bytes: [u8; 3]) -> bool {
-    marks::get(known, 0) == bytes[0]
-        && marks::get(known, 1) == bytes[1]
-        && marks::get(known, 2) == bytes[2]
+fn marked(a: [u8; 3], b: [u8; 3]) -> bool {
+    a[0] == b[0] && a[1] == b[1] && a[2] == b[2]
 }
 
 fn solved(
@@ -77,120 +67,67 @@ fn of_sheet(n: usize) -> Example {
 }
 
 // whether the contradiction call names what it should
-fn named(
-    m: &mut [u64],
-    copy: &mut [u64],
-    wide: &mut [u64],
-    names: &mut [u64],
-    room: &mut [u64],
-    e: Example,
-    k: usize,
-) -> bool {
-    let packets = e.packets;
-    put(m, packets);
-    let s = shape::naming(e.rows, 5, 3, k);
-    if !naming::right(m, copy, wide, names, room, s, 0) {
+fn named(e: Example, k: usize) -> bool {
+    let m = e.packets;
+    let mut names = [0u64; 1];
+    if !naming::right(&m, &mut names, shape::naming(e.rows, 5, 3, k), 0) {
         return false;
     }
-    if e.rows == 0 {
-        return true;
-    }
     if e.named == 0 {
-        return keep::first_kept(names);
+        return e.rows == 0 || keep::first_kept(&names);
     }
-    buffer::get(names, 0) == e.named
+    names[0] == e.named
 }
 
 // whether solving leaves what it should
-fn left(
-    m: &mut [u64],
-    copy: &mut [u64],
-    image: &mut [u64],
-    known: &mut [u8],
-    room: &mut [u64],
-    e: Example,
-    k: usize,
-) -> bool {
-    let packets = e.packets;
-    put(m, packets);
+fn left(e: Example, k: usize) -> bool {
+    let mut m = e.packets;
+    let mut image = [0u64; 3];
+    let mut known = [0u8; 3];
     let s = shape::solving(e.rows, 5, 3, k);
-    if !solving::right(m, copy, image, known, room, s, 0) {
+    if !solving::right(&mut m, &mut image, &mut known, s, 0) {
         return false;
     }
     let reduced = e.reduced;
-    if !begins(m, reduced) {
+    if !same(m, reduced) {
         return false;
     }
     if e.named != 0 {
-        return marks::refused(known);
+        return marks::refused(&known);
     }
     let blocks = e.image;
     let bytes = e.known;
-    begins(image, blocks) && marked(known, bytes)
+    same(image, blocks) && marked(known, bytes)
 }
 
 // P4 has no inverse, and P5 has one
-fn inverted(
-    m: &mut [u64],
-    copy: &mut [u64],
-    wide: &mut [u64],
-    result: &mut [u64],
-    room: &mut [u64],
-    has_one: bool,
-    k: usize,
-) -> bool {
+fn inverted(has_one: bool, k: usize) -> bool {
     let last = if has_one { 4 } else { 5 };
-    put(m, [3, 6, last]);
-    if !inversion::right(m, copy, wide, result, room, shape::inverse(3, 3, k), 0) {
+    let m = [3, 6, last];
+    let mut result = [0u64; 3];
+    if !inversion::right(&m, &mut result, shape::inverse(3, 3, k), 0) {
         return false;
     }
     if !has_one {
-        return keep::first_kept(result);
+        return keep::first_kept(&result);
     }
-    begins(result, [7, 6, 4])
+    same(result, [7, 6, 4])
 }
 
-fn case(
-    m: &mut [u64],
-    copy: &mut [u64],
-    wide: &mut [u64],
-    out: &mut [u64],
-    known: &mut [u8],
-    room: &mut [u64],
-    n: usize,
-    k: usize,
-) -> bool {
+fn case(n: usize, k: usize) -> bool {
     if n < 2 {
-        return inverted(m, copy, wide, out, room, n == 1, k);
+        return inverted(n == 1, k);
     }
-    let i = n - 2;
-    if !named(m, copy, wide, out, room, of_sheet(i), k) {
-        return false;
-    }
-    left(m, copy, out, known, room, of_sheet(i), k)
+    let e = of_sheet(n - 2);
+    named(e, k) && left(e, k)
 }
 
 // each of the nine with each k
 pub fn all() -> Tally {
-    let mut m = [0u64; shape::MATRIX];
-    let mut copy = [0u64; shape::MATRIX];
-    let mut wide = [0u64; shape::PACKETS];
-    let mut out = [0u64; shape::MATRIX];
-    let mut known = [0u8; shape::MARKS];
-    let mut room = [0u64; shape::ROOM];
     let mut t = Tally::none();
     let mut n = 0;
     while n < 72 {
-        t = t.count(case(
-            &mut m,
-            &mut copy,
-            &mut wide,
-            &mut out,
-            &mut known,
-            &mut room,
-            n / 8,
-            n % 8 + 1,
-        ));
+        t = t.count(case(n / 8, n % 8 + 1));
         n += 1;
     }
     t

@@ -92,13 +92,7 @@ fn kind_word(m: &[u64], w: usize, columns: usize, kind: usize, i: usize, j: usiz
     }
 }
 
-// a matrix of that kind with clean padding, in all of the buffer
-pub fn fill(m: &mut [u64], columns: usize, kind: usize, seed: u64) {
-    let n = m.len();
-    first(m, n, columns, kind, seed);
-}
-
-// the same in the buffer's first n words
+// a matrix of that kind with clean padding, in the buffer's first n words
 pub fn first(m: &mut [u64], n: usize, columns: usize, kind: usize, seed: u64) {
     let w = buffer::width(columns);
     if w == 0 {

@@ -9,6 +9,9 @@ use super::product;
 use super::shape;
 use super::tally::Tally;
 
+// stands for no filling: a product
+const DENSE: usize = 10;
+
 fn size_of(n: usize) -> usize {
     match n {
         0 => 1,
@@ -30,49 +33,61 @@ fn size_of(n: usize) -> usize {
 }
 
 // a dense matrix that has an inverse: a lower times an upper one
-fn dense(m: &mut [u64], a: &mut [u64], b: &mut [u64], n: usize, x: u64) {
+fn dense(m: &mut [u64], n: usize, x: u64) {
+    let mut a = [0u64; shape::MATRIX];
+    let mut b = [0u64; shape::MATRIX];
     let len = shape::matrix(n, n);
-    fill::first(a, len, n, 8, fill::start(1, x));
-    fill::first(b, len, n, 9, fill::start(2, x));
-    product::product(a, b, m, n, n, n);
+    fill::first(&mut a, len, n, 8, fill::start(1, x));
+    fill::first(&mut b, len, n, 9, fill::start(2, x));
+    product::product(&a, &b, m, n, n, n);
 }
 
 // some row becomes zero, another row, or the sum of two others, and no inverse is left
-fn spoil(m: &mut [u64], n: usize, others: usize, x: u64) {
+fn spoil(m: &mut [u64], n: usize, kind: usize, x: u64) {
     let w = buffer::width(n);
     let i = fill::number(x, n);
     lists::clear(m, w, i, n);
-    if others == 0 {
+    if kind == 6 {
         return;
     }
     let y = fill::next(x);
     plain::add(m, w, fill::number(y, n), i);
-    if others == 1 {
+    if kind == 7 {
         return;
     }
     plain::add(m, w, fill::number(fill::next(y), n), i);
 }
 
-// kinds 0 to 5 have an inverse, 6 to 8 have none, and the others may have one
-fn make(m: &mut [u64], a: &mut [u64], b: &mut [u64], n: usize, kind: usize, x: u64) {
-    let len = shape::matrix(n, n);
-    dense(m, a, b, n, x);
+// what a matrix of that kind is filled with
+fn filling(kind: usize) -> usize {
     match kind {
-        0 | 1 => {}
-        2 => lists::shuffle(m, buffer::width(n), n, x),
-        3 => fill::first(m, len, n, 8, x),
-        4 => fill::first(m, len, n, 9, x),
-        5 => {
-            fill::first(m, len, n, 2, x);
-            lists::shuffle(m, buffer::width(n), n, x);
-        }
-        6 => spoil(m, n, 0, x),
-        7 => spoil(m, n, 1, x),
-        8 => spoil(m, n, 2, x),
-        9 => fill::first(m, len, n, 1, x),
-        10 => fill::first(m, len, n, 4, x),
-        11 => fill::first(m, len, n, 5, x),
-        _ => fill::first(m, len, n, 0, x),
+        0 | 1 | 2 | 6 | 7 | 8 => DENSE,
+        3 => 8,
+        4 => 9,
+        5 => 2,
+        9 => 1,
+        10 => 4,
+        11 => 5,
+        _ => 0,
+    }
+}
+
+fn begin(m: &mut [u64], n: usize, kind: usize, x: u64) {
+    let filling = filling(kind);
+    if filling == DENSE {
+        dense(m, n, x);
+    } else {
+        fill::first(m, shape::matrix(n, n), n, filling, x);
+    }
+}
+
+// kinds 0 to 5 have an inverse, 6 to 8 have none, and the others may have one
+fn make(m: &mut [u64], n: usize, kind: usize, x: u64) {
+    begin(m, n, kind, x);
+    match kind {
+        2 | 5 => lists::shuffle(m, buffer::width(n), n, x),
+        6 | 7 | 8 => spoil(m, n, kind, x),
+        _ => {}
     }
 }
 
@@ -84,68 +99,41 @@ fn expected(kind: usize, refused: bool) -> bool {
     refused || 8 < kind
 }
 
-fn one(
-    m: &mut [u64],
-    copy: &mut [u64],
-    wide: &mut [u64],
-    result: &mut [u64],
-    room: &mut [u64],
-    n: usize,
-    k: usize,
-    kind: usize,
-    x: u64,
-) -> bool {
-    make(m, copy, wide, n, kind, x);
+fn one(n: usize, k: usize, kind: usize, x: u64) -> bool {
+    let mut m = [0u64; shape::MATRIX];
+    let mut result = [0u64; shape::MATRIX];
+    make(&mut m, n, kind, x);
     let s = shape::inverse(n, n, k).roomy(fill::number(x, 9));
-    if !inversion::right(m, copy, wide, result, room, s, 0) {
+    if !inversion::right(&m, &mut result, s, 0) {
         return false;
     }
-    expected(kind, keep::first_kept(result))
+    expected(kind, keep::first_kept(&result))
 }
 
-// case n: the large sizes first, then each size with each kind and each k, then small sizes
-fn case(
-    m: &mut [u64],
-    copy: &mut [u64],
-    wide: &mut [u64],
-    result: &mut [u64],
-    room: &mut [u64],
-    n: usize,
-) -> bool {
-    let k = n % 8 + 1;
-    let x = fill::start(n / 8, 1234567);
+// the large sizes first, of two kinds, then each other size with each kind and each k, then small sizes
+fn size(n: usize, x: u64) -> usize {
     if n < 24 {
-        let kind = if n / 3 % 2 == 0 { 0 } else { 8 };
-        return one(m, copy, wide, result, room, size_of(n % 3 + 12), k, kind, x);
+        return size_of(n % 3 + 12);
     }
-    let kind = n / 8 % 16;
     if n < 3096 {
-        return one(
-            m,
-            copy,
-            wide,
-            result,
-            room,
-            size_of(n / 128 % 12),
-            k,
-            kind,
-            x,
-        );
+        return size_of(n / 128 % 12);
     }
-    let size = buffer::sum(fill::number(x, 12), 1);
-    one(m, copy, wide, result, room, size, k, kind, x)
+    buffer::sum(fill::number(x, 12), 1)
+}
+
+fn kind_of(n: usize) -> usize {
+    if n < 24 {
+        return if n / 3 % 2 == 0 { 0 } else { 8 };
+    }
+    n / 8 % 16
 }
 
 pub fn all() -> Tally {
-    let mut m = [0u64; shape::MATRIX];
-    let mut copy = [0u64; shape::MATRIX];
-    let mut wide = [0u64; shape::PACKETS];
-    let mut result = [0u64; shape::MATRIX];
-    let mut room = [0u64; shape::ROOM];
     let mut t = Tally::none();
     let mut n = 0;
     while n < 19480 {
-        t = t.count(case(&mut m, &mut copy, &mut wide, &mut result, &mut room, n));
+        let x = fill::start(n / 8, 1234567);
+        t = t.count(one(size(n, x), n % 8 + 1, kind_of(n), x));
         n += 1;
     }
     t

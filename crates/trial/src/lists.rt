@@ -4,6 +4,17 @@ use super::fill;
 use super::plain;
 use super::product;
 use super::shape;
+use super::sizes::Size;
+
+// A list's numbers, the kind of its coefficients, the change made to it, and its generator's start
+pub struct List {
+    pub rows: usize,
+    pub columns: usize,
+    pub n: usize,
+    pub kind: usize,
+    pub how: usize,
+    pub x: u64,
+}
 
 // an image as packets: row j names block j alone, and its payload is random
 fn truth(t: &mut [u64], columns: usize, n: usize, seed: u64) {
@@ -23,24 +34,22 @@ fn truth(t: &mut [u64], columns: usize, n: usize, seed: u64) {
     }
 }
 
-// packets with coefficients of that kind, in c, of the image in t
-fn true_list(
-    m: &mut [u64],
-    c: &mut [u64],
-    t: &mut [u64],
-    rows: usize,
-    columns: usize,
-    n: usize,
-    kind: usize,
-    x: u64,
-) {
-    truth(t, columns, n, fill::start(1, x));
-    let len = buffer::place(rows, buffer::width(n), 0);
-    fill::first(c, len, n, kind, fill::start(2, x));
-    product::product(c, t, m, rows, n, columns);
+// the image that a list is made from
+pub fn image(t: &mut [u64], l: List) {
+    truth(t, l.columns, l.n, fill::start(1, l.x));
 }
 
-pub fn flip(m: &mut [u64], w: usize, i: usize, c: usize) {
+// packets of the image, with coefficients of that kind
+fn true_list(m: &mut [u64], l: List) {
+    let mut t = [0u64; shape::PACKETS];
+    let mut c = [0u64; shape::MATRIX];
+    let len = buffer::place(l.rows, buffer::width(l.n), 0);
+    image(&mut t, l);
+    fill::first(&mut c, len, l.n, l.kind, fill::start(2, l.x));
+    product::product(&c, &t, m, l.rows, l.n, l.columns);
+}
+
+fn flip(m: &mut [u64], w: usize, i: usize, c: usize) {
     let p = buffer::place(i, w, c / 64);
     let v = buffer::get(m, p);
     buffer::put(m, p, v ^ fill::identity(c % 64, 0));
@@ -80,51 +89,73 @@ pub fn repeat(m: &[u64], len: usize, out: &mut [u64], all: usize) {
     }
 }
 
-// a change to one packet, or to their order
-fn change(m: &mut [u64], rows: usize, columns: usize, n: usize, how: usize, x: u64) {
-    let w = buffer::width(columns);
-    let i = fill::number(x, rows);
-    let y = fill::next(x);
-    let coefficient = fill::number(y, n);
-    let payload = buffer::sum(n, fill::number(y, shape::payload(columns, n)));
+// a change to row i, or to the order of the rows
+fn change(m: &mut [u64], l: List, i: usize, y: u64) {
+    let w = buffer::width(l.columns);
+    let how = l.how;
     match how {
-        0 | 1 => {}
-        2 => shuffle(m, w, rows, y),
-        3 => clear(m, w, i, columns),
-        4 => flip(m, w, i, payload),
-        5 => flip(m, w, i, coefficient),
-        6 => {
-            clear(m, w, i, columns);
-            flip(m, w, i, payload);
-        }
-        _ => fill::first(m, buffer::place(rows, w, 0), columns, 0, y),
+        2 => shuffle(m, w, l.rows, y),
+        3 | 6 => clear(m, w, i, l.columns),
+        7 => fill::first(m, buffer::place(l.rows, w, 0), l.columns, 0, y),
+        _ => {}
     }
 }
 
-// whether a list of so many rows, so changed, is still met by its image
-pub fn still_true(rows: usize, how: usize) -> bool {
-    rows == 0 || how < 4
+// the bit of a packet that is flipped: of a coefficient, or of the payload
+fn flipped(l: List, y: u64) -> usize {
+    if l.how == 5 {
+        return fill::number(y, l.n);
+    }
+    buffer::sum(l.n, fill::number(y, shape::payload(l.columns, l.n)))
 }
 
-// whether it has a packet that no image meets
-pub fn is_false(rows: usize, how: usize) -> bool {
-    0 < rows && how == 6
+impl List {
+    // list t of that size
+    pub fn nth(size: Size, t: usize, x: u64) -> List {
+        List {
+            rows: size.0,
+            columns: buffer::sum(size.1, size.2),
+            n: size.1,
+            kind: t % 10,
+            how: t / 10 % 8,
+            x: x,
+        }
+    }
+
+    // with so many rows
+    pub fn with(self, rows: usize) -> List {
+        List {
+            rows: rows,
+            columns: self.columns,
+            n: self.n,
+            kind: self.kind,
+            how: self.how,
+            x: self.x,
+        }
+    }
+
+    // whether it is still met by its image
+    pub fn still_true(self) -> bool {
+        self.rows == 0 || self.how < 4
+    }
+
+    // whether it has a packet that no image meets
+    pub fn is_false(self) -> bool {
+        0 < self.rows && self.how == 6
+    }
 }
 
-// a list of packets of that kind, so changed; the image it was made from is in t
-pub fn make(
-    m: &mut [u64],
-    c: &mut [u64],
-    t: &mut [u64],
-    rows: usize,
-    columns: usize,
-    n: usize,
-    kind: usize,
-    how: usize,
-    x: u64,
-) {
-    true_list(m, c, t, rows, columns, n, kind, x);
-    if 0 < rows {
-        change(m, rows, columns, n, how, fill::start(3, x));
+// the list, in the buffer's first words
+pub fn make(m: &mut [u64], l: List) {
+    true_list(m, l);
+    if l.rows == 0 {
+        return;
+    }
+    let x = fill::start(3, l.x);
+    let i = fill::number(x, l.rows);
+    let y = fill::next(x);
+    change(m, l, i, y);
+    if 4 <= l.how && l.how <= 6 {
+        flip(m, buffer::width(l.columns), i, flipped(l, y));
     }
 }

@@ -37,24 +37,30 @@ fn say(name: &[u8], t: Tally) {
     io::write_all(1, b"\n");
 }
 
-fn main() {
-    let mut m = [0u64; shape::MATRIX];
-    let mut copy = [0u64; shape::MATRIX];
-    let mut room = [0u64; shape::ROOM];
-    say(
-        b"reductions ",
-        reductions::all(&mut m, &mut copy, &mut room),
-    );
-    say(b"refusals ", refused::all(&mut m, &mut copy, &mut room));
-    say(b"views ", views::all(&mut m));
+fn matrices() {
+    say(b"reductions ", reductions::all());
+    say(b"refusals ", refused::all());
+    say(b"views ", views::all());
     say(b"inverses ", inverses::all());
     say(b"inverse refusals ", refused_inverse::all());
+}
+
+fn lists_solved() {
     say(b"solutions ", solutions::all());
     say(b"solving refusals ", refused_solving::all());
     say(b"repeats ", pairs::all(false));
     say(b"growths ", pairs::all(true));
+}
+
+fn lists_named() {
     say(b"contradictions ", contradictions::all());
     say(b"contradiction refusals ", refused_naming::all());
     say(b"enumerations ", enumerations::all());
     say(b"examples ", examples::all());
+}
+
+fn main() {
+    matrices();
+    lists_solved();
+    lists_named();
 }

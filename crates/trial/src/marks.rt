@@ -13,6 +13,14 @@ fn put(s: &mut [u8], i: usize, v: u8) {
     }
 }
 
+// the first n bytes, or none where there are fewer
+pub fn part_mut(s: &mut [u8], n: usize) -> &mut [u8] {
+    if s.len() < n {
+        return &mut s[0..0];
+    }
+    &mut s[0..n]
+}
+
 pub fn lay(s: &mut [u8]) {
     let n = s.len();
     let mut i = 0;

@@ -1,5 +1,6 @@
 // One call that names packets, held to everything that it promises.
 use super::buffer;
+use super::call;
 use super::fill;
 use super::keep;
 use super::plain;
@@ -76,87 +77,47 @@ fn contradict(m: &[u64], named: &[u64], rows: usize, columns: usize, n: usize) -
 }
 
 // whether a call that passed the checks told the right verdict, and left the right names
-fn passed(m: &[u64], wide: &mut [u64], named: &[u64], s: Shape, told: u8) -> bool {
+fn passed(m: &[u64], named: &[u64], s: Shape, told: u8) -> bool {
     let end = buffer::sum(s.columns, s.rows);
+    let mut wide = [0u64; shape::MATRIX];
     let mut pivots = [65535u64; 512];
-    adjoin(m, wide, s.rows, s.columns);
-    let rank = plain::reduce(wide, s.rows, end, &mut pivots);
+    adjoin(m, &mut wide, s.rows, s.columns);
+    let rank = plain::reduce(&mut wide, s.rows, end, &mut pivots);
     let i = row_of(&pivots, rank, s.columns, s.n);
     if i == rank {
         return told == 0 && keep::kept(named);
     }
     let v = buffer::width(s.rows);
     let w = buffer::width(end);
-    if !solving::holds(named, v, 0, wide, w, i, s.columns, end) {
+    if !solving::holds(named, v, 0, &wide, w, i, s.columns, end) {
         return false;
     }
     told == NAMED && contradict(m, named, s.rows, s.columns, s.n)
 }
 
-// whether what was told, and what the call left, is right
-fn judged(
-    m: &[u64],
-    copy: &[u64],
-    wide: &mut [u64],
-    named: &[u64],
-    room: &[u64],
-    s: Shape,
-    number: u8,
-    told: u8,
-) -> bool {
-    if !buffer::same(m, copy) {
-        return false;
-    }
+// whether the told number and the names are right
+fn judged(m: &[u64], named: &[u64], s: Shape, number: u8, told: u8) -> bool {
     if number != 0 {
-        return told == number && keep::kept(named) && buffer::zeros_then_ones(room, 0);
+        return told == number && keep::kept(named);
     }
-    let zeros = shape::table(s.rows, s.k, shape::beside(s.columns, s.rows));
-    if !buffer::zeros_then_ones(room, zeros) {
-        return false;
-    }
-    passed(m, wide, named, s, told)
+    passed(m, named, s, told)
 }
 
-fn held(
-    m: &[u64],
-    copy: &mut [u64],
-    wide: &mut [u64],
-    named: &mut [u64],
-    room: &mut [u64],
-    s: Shape,
-    number: u8,
-) -> bool {
-    buffer::copy(m, copy);
-    keep::lay(named);
-    buffer::all_ones(room);
+// the call, with a room of ones, and the names laid
+fn held(m: &[u64], named: &mut [u64], room: &mut [u64], s: Shape, number: u8) -> bool {
+    let mut copy = [0u64; shape::MATRIX];
+    buffer::copy(m, &mut copy);
     let v = packets::contradiction(m, s.rows, s.columns, s.n, s.k, named, room);
-    judged(m, copy, wide, named, room, s, number, number_of(v))
+    let left = call::left(m, &copy, room, s.zeros(number));
+    left & judged(m, named, s, number, number_of(v))
 }
 
 // whether the call answers that number (0: past the checks), with all that follows from it
-pub fn right(
-    m: &[u64],
-    copy: &mut [u64],
-    wide: &mut [u64],
-    named: &mut [u64],
-    room: &mut [u64],
-    s: Shape,
-    number: u8,
-) -> bool {
-    let len = s.len;
-    let out = s.out;
-    let lent = s.room;
-    if m.len() < len {
-        return false;
-    }
-    if named.len() < out {
-        return false;
-    }
-    if room.len() < lent {
-        return false;
-    }
-    let part = &m[..len];
-    let names = &mut named[..out];
-    let work = &mut room[..lent];
-    held(part, copy, wide, names, work, s, number)
+pub fn right(m: &[u64], named: &mut [u64], s: Shape, number: u8) -> bool {
+    let mut room = [buffer::ONES; shape::ROOM];
+    keep::lay(named);
+    let part = buffer::part(m, s.len);
+    let names = buffer::part_mut(named, s.out);
+    let work = buffer::part_mut(&mut room, s.room);
+    held(part, names, work, s, number)
 }

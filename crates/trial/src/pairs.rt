@@ -2,6 +2,7 @@
 use super::buffer;
 use super::fill;
 use super::lists;
+use super::lists::List;
 use super::marks;
 use super::shape;
 use super::shape::Shape;
@@ -50,22 +51,21 @@ fn agree(
     known: &[u8],
     other: &[u64],
     later: &[u8],
-    columns: usize,
-    n: usize,
+    s: Shape,
     more: bool,
     changed: bool,
 ) -> bool {
-    let v = buffer::width(shape::payload(columns, n));
     if marks::refused(known) {
         return marks::refused(later);
     }
     if marks::refused(later) {
         return more && changed;
     }
-    if !still_known(image, known, other, later, v, n) {
+    let v = buffer::width(shape::payload(s.columns, s.n));
+    if !still_known(image, known, other, later, v, s.n) {
         return false;
     }
-    more || still_known(other, later, image, known, v, n)
+    more || still_known(other, later, image, known, v, s.n)
 }
 
 // the rows of the second list
@@ -76,123 +76,56 @@ fn rows_of(rows: usize, more: bool, x: u64) -> usize {
     buffer::sum(rows, fill::number(x, 30))
 }
 
-// a list into second, and its first rows into m
-fn cut(
-    m: &mut [u64],
-    copy: &mut [u64],
-    wide: &mut [u64],
-    second: &mut [u64],
-    size: Size,
-    all: usize,
-    t: usize,
-    x: u64,
-) {
-    let n = size.1;
-    let columns = buffer::sum(n, size.2);
-    let w = buffer::width(columns);
-    let len = buffer::place(size.0, w, 0);
-    lists::make(second, copy, wide, all, columns, n, t % 10, t / 10 % 8, x);
-    lists::repeat(second, len, m, len);
-    lists::shuffle(second, w, all, fill::next(x));
+// The list into m, with more packets after it if there are more in all; and into second, in another order, all packets that there are, some of them repeated if there are no more.
+fn make(m: &mut [u64], second: &mut [u64], l: List, all: usize, more: bool) {
+    let made = if more { all } else { l.rows };
+    let w = buffer::width(l.columns);
+    lists::make(m, l.with(made));
+    lists::repeat(
+        m,
+        buffer::place(made, w, 0),
+        second,
+        buffer::place(all, w, 0),
+    );
+    lists::shuffle(second, w, all, fill::next(l.x));
 }
 
-// a list into m, and the same packets, some of them repeated, into second
-fn repeat(
-    m: &mut [u64],
-    copy: &mut [u64],
-    wide: &mut [u64],
+// whether the second list is solved rightly, and the answer agrees with that to the first
+fn again(
     second: &mut [u64],
-    size: Size,
-    all: usize,
-    t: usize,
-    x: u64,
-) {
-    let n = size.1;
-    let columns = buffer::sum(n, size.2);
-    let w = buffer::width(columns);
-    let len = buffer::place(size.0, w, 0);
-    lists::make(m, copy, wide, size.0, columns, n, t % 10, t / 10 % 8, x);
-    lists::repeat(m, len, second, buffer::place(all, w, 0));
-    lists::shuffle(second, w, all, fill::next(x));
-}
-
-fn prepare(
-    m: &mut [u64],
-    copy: &mut [u64],
-    wide: &mut [u64],
-    second: &mut [u64],
-    size: Size,
-    all: usize,
-    more: bool,
-    t: usize,
-    x: u64,
-) {
-    if more {
-        cut(m, copy, wide, second, size, all, t, x);
-    } else {
-        repeat(m, copy, wide, second, size, all, t, x);
-    }
-}
-
-// whether both lists are solved rightly, and the answers agree
-fn solved(
-    m: &mut [u64],
-    copy: &mut [u64],
-    second: &mut [u64],
-    image: &mut [u64],
-    other: &mut [u64],
-    known: &mut [u8],
-    later: &mut [u8],
-    room: &mut [u64],
-    s: Shape,
     z: Shape,
+    image: &[u64],
+    known: &[u8],
     more: bool,
     changed: bool,
 ) -> bool {
-    if !solving::right(m, copy, image, known, room, s, 0) {
+    let mut other = [0u64; shape::MATRIX];
+    let mut later = [0u8; shape::MARKS];
+    if !solving::right(second, &mut other, &mut later, z, 0) {
         return false;
     }
-    if !solving::right(second, copy, other, later, room, z, 0) {
-        return false;
-    }
-    agree(image, known, other, later, s.columns, s.n, more, changed)
+    agree(image, known, &other, &later, z, more, changed)
 }
 
-fn one(
-    m: &mut [u64],
-    copy: &mut [u64],
-    wide: &mut [u64],
-    second: &mut [u64],
-    image: &mut [u64],
-    other: &mut [u64],
-    known: &mut [u8],
-    later: &mut [u8],
-    room: &mut [u64],
-    size: Size,
-    more: bool,
-    t: usize,
-) -> bool {
-    let x = fill::start(t, 4669201);
-    let n = size.1;
-    let columns = buffer::sum(n, size.2);
-    let all = rows_of(size.0, more, x);
-    let s = shape::solving(size.0, columns, n, t % 8 + 1);
-    let z = shape::solving(all, columns, n, buffer::sum(fill::number(x, 8), 1));
-    let changed = !lists::still_true(all, t / 10 % 8);
-    prepare(m, copy, wide, second, size, all, more, t, x);
-    solved(
-        m,
-        copy,
-        second,
-        image,
-        other,
-        known,
-        later,
-        room,
-        s,
+fn one(l: List, k: usize, more: bool) -> bool {
+    let mut m = [0u64; shape::MATRIX];
+    let mut second = [0u64; shape::MATRIX];
+    let mut image = [0u64; shape::MATRIX];
+    let mut known = [0u8; shape::MARKS];
+    let all = rows_of(l.rows, more, l.x);
+    make(&mut m, &mut second, l, all, more);
+    let s = shape::solving(l.rows, l.columns, l.n, k);
+    if !solving::right(&mut m, &mut image, &mut known, s, 0) {
+        return false;
+    }
+    let z = shape::solving(all, l.columns, l.n, buffer::sum(fill::number(l.x, 8), 1));
+    again(
+        &mut second,
         z,
+        &image,
+        &known,
         more,
-        changed,
+        !l.with(all).still_true(),
     )
 }
 
@@ -207,33 +140,11 @@ fn size_of(n: usize) -> Size {
 
 // more: whether the second list has more packets, or only repeats those of the first
 pub fn all(more: bool) -> Tally {
-    let mut m = [0u64; shape::MATRIX];
-    let mut copy = [0u64; shape::MATRIX];
-    let mut wide = [0u64; shape::PACKETS];
-    let mut second = [0u64; shape::MATRIX];
-    let mut image = [0u64; shape::MATRIX];
-    let mut other = [0u64; shape::MATRIX];
-    let mut known = [0u8; shape::MARKS];
-    let mut later = [0u8; shape::MARKS];
-    let mut room = [0u64; shape::ROOM];
     let mut t = Tally::none();
     let mut n = 0;
     while n < 4000 {
-        let right = one(
-            &mut m,
-            &mut copy,
-            &mut wide,
-            &mut second,
-            &mut image,
-            &mut other,
-            &mut known,
-            &mut later,
-            &mut room,
-            size_of(n),
-            more,
-            n,
-        );
-        t = t.count(right);
+        let l = List::nth(size_of(n), n, fill::start(n, 4669201));
+        t = t.count(one(l, n % 8 + 1, more));
         n += 1;
     }
     t

@@ -1,7 +1,8 @@
 // Reductions of matrices of many shapes and kinds.
-use super::buffer;
 use super::call;
 use super::fill;
+use super::shape;
+use super::shape::Shape;
 use super::tally::Tally;
 
 fn columns_of(n: usize, x: u64) -> usize {
@@ -31,52 +32,31 @@ fn rows_of(n: usize, x: u64) -> usize {
     }
 }
 
-// a matrix of the kind, and a work room with so many words more than needed
-fn one(
-    m: &mut [u64],
-    copy: &mut [u64],
-    room: &mut [u64],
-    rows: usize,
-    columns: usize,
-    k: usize,
-    kind: usize,
-    more: usize,
-    x: u64,
-) -> bool {
-    let w = buffer::width(columns);
-    let len = buffer::place(rows, w, 0);
-    let needed = buffer::place(buffer::pow2(k), w, more);
-    if m.len() < len {
-        return false;
-    }
-    if room.len() < needed {
-        return false;
-    }
-    let part = &mut m[..len];
-    let lent = &mut room[..needed];
-    fill::fill(part, columns, kind, x);
-    call::right(part, copy, lent, rows, columns, k, 0)
+// a matrix of that kind
+fn one(s: Shape, kind: usize, x: u64) -> bool {
+    let mut m = [0u64; shape::MATRIX];
+    fill::first(&mut m, s.len, s.columns, kind, x);
+    call::right(&mut m, s, 0)
 }
 
-// case n: each kind with each k, the columns and the rows
-fn case(m: &mut [u64], copy: &mut [u64], room: &mut [u64], n: usize, x: u64) -> bool {
-    let kind = n % 8;
-    let k = n / 8 % 8 + 1;
+// case n: each kind with each k, the columns and the rows, and a room with some words more than needed
+fn case(n: usize, x: u64) -> bool {
     let y = fill::next(x);
-    let columns = columns_of(n / 64 % 10, y);
     let z = fill::next(y);
+    let columns = columns_of(n / 64 % 10, y);
     let rows = rows_of(n / 640 % 16, z);
     let more = if n % 3 == 0 { 0 } else { n % 100 };
-    one(m, copy, room, rows, columns, k, kind, more, z)
+    let s = shape::reduction(rows, columns, n / 8 % 8 + 1).roomy(more);
+    one(s, n % 8, z)
 }
 
-pub fn all(m: &mut [u64], copy: &mut [u64], room: &mut [u64]) -> Tally {
+pub fn all() -> Tally {
     let mut t = Tally::none();
     let mut x = 88172645463325252;
     let mut n = 0;
     while n < 10240 {
         x = fill::next(x);
-        t = t.count(case(m, copy, room, n, x));
+        t = t.count(case(n, x));
         n += 1;
     }
     t

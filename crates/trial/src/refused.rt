@@ -1,8 +1,10 @@
 // Refusals: all combinations of numbers at and past each bound, lengths that are right or one off, and padding that is clean or not.
 use super::buffer;
 use super::call;
+use super::faults;
 use super::fill;
 use super::shape;
+use super::shape::Shape;
 use super::tally::Tally;
 
 pub fn rows_of(n: usize) -> usize {
@@ -75,53 +77,34 @@ pub fn soil(m: &mut [u64], rows: usize, columns: usize, n: usize) -> bool {
 }
 
 // the first fault in the order of the requirements, or 0
-fn first(rows: usize, columns: usize, k: usize, len: usize, room: usize, dirty: bool) -> u8 {
-    if 512 < rows {
-        return 1;
-    }
-    if columns == 0 || 1024 < columns {
-        return 2;
-    }
-    if k == 0 || 8 < k {
-        return 3;
-    }
-    let w = buffer::width(columns);
-    if len != buffer::place(rows, w, 0) {
-        return 4;
-    }
-    if room < buffer::place(buffer::pow2(k), w, 0) {
-        return 6;
-    }
-    if dirty { 5 } else { 0 }
+fn first(s: Shape, dirty: bool) -> u8 {
+    let words = faults::words(s.rows, s.columns, s.len);
+    let room = faults::room(s, 0, buffer::width(s.columns), dirty);
+    let numbers = faults::first(faults::size(s.rows, s.columns), faults::window(s.k));
+    faults::first(numbers, faults::first(words, room))
 }
 
-fn case(m: &mut [u64], copy: &mut [u64], room: &mut [u64], n: usize, x: u64) -> bool {
-    let rows = rows_of(n % 8);
-    let columns = columns_of(n / 8 % 10);
-    let k = k_of(n / 80 % 8);
-    let len = length_of(n / 640 % 4, shape::matrix(rows, columns));
-    let lent = length_of(n / 2560 % 3, shape::table(0, k, columns));
-    if m.len() < len {
-        return false;
-    }
-    if room.len() < lent {
-        return false;
-    }
-    let part = &mut m[..len];
-    let work = &mut room[..lent];
-    fill::fill(part, columns, 0, x);
-    let dirty = soil(part, rows, columns, n / 7680 % 5);
-    let number = first(rows, columns, k, len, lent, dirty);
-    call::right(part, copy, work, rows, columns, k, number)
+fn shape_of(n: usize) -> Shape {
+    let s = shape::reduction(rows_of(n % 8), columns_of(n / 8 % 10), k_of(n / 80 % 8));
+    let len = length_of(n / 640 % 4, s.len);
+    s.lent(len, 0, 0, length_of(n / 2560 % 3, s.room))
 }
 
-pub fn all(m: &mut [u64], copy: &mut [u64], room: &mut [u64]) -> Tally {
+fn case(n: usize, x: u64) -> bool {
+    let mut m = [0u64; shape::MATRIX];
+    let s = shape_of(n);
+    fill::first(&mut m, s.len, s.columns, 0, x);
+    let dirty = soil(&mut m, s.rows, s.columns, n / 7680 % 5);
+    call::right(&mut m, s, first(s, dirty))
+}
+
+pub fn all() -> Tally {
     let mut t = Tally::none();
     let mut x = 362436069362436069;
     let mut n = 0;
     while n < 38400 {
         x = fill::next(x);
-        t = t.count(case(m, copy, room, n, x));
+        t = t.count(case(n, x));
         n += 1;
     }
     t

@@ -1,5 +1,4 @@
 // Refusals of the inverse: combinations of numbers at and past each bound, lengths that are right or not, and padding that is clean or not.
-use super::buffer;
 use super::faults;
 use super::faults::HALF;
 use super::faults::LAST;
@@ -42,64 +41,45 @@ fn numbers(n: usize) -> Given {
     }
 }
 
-// the first fault in the order of the requirements, or 0
-fn first(s: Shape, dirty: bool) -> u8 {
-    if 512 < s.rows {
-        return 1;
-    }
-    if s.columns == 0 || 1024 < s.columns {
-        return 2;
-    }
-    if s.rows != s.columns {
-        return 8;
-    }
-    if s.k == 0 || 8 < s.k {
-        return 3;
-    }
-    let words = buffer::place(s.rows, buffer::width(s.columns), 0);
-    if s.len != words {
-        return 4;
-    }
-    if s.out != words {
-        return 13;
-    }
-    let w = buffer::width(buffer::sum(s.columns, s.rows));
-    if s.room < buffer::place(buffer::sum(s.rows, buffer::pow2(s.k)), w, 0) {
-        return 6;
-    }
-    if dirty { 5 } else { 0 }
+// the first fault of the numbers in the order of the requirements, or 0
+fn of_numbers(s: Shape) -> u8 {
+    let square = if s.rows == s.columns { 0 } else { 8 };
+    let later = faults::first(square, faults::window(s.k));
+    faults::first(faults::size(s.rows, s.columns), later)
 }
 
-fn case(
-    m: &mut [u64],
-    copy: &mut [u64],
-    wide: &mut [u64],
-    result: &mut [u64],
-    room: &mut [u64],
-    n: usize,
-) -> bool {
+// and of the lengths and the padding, where the numbers are right
+fn of_buffers(s: Shape, dirty: bool) -> u8 {
+    let words = faults::words(s.rows, s.columns, s.len);
+    let result = if s.out == s.len { 0 } else { 13 };
+    let later = faults::first(result, faults::room_beside(s, dirty));
+    faults::first(words, later)
+}
+
+fn shape_of(n: usize) -> Shape {
     let g = numbers(n % 24);
     let s = shape::inverse(g.0, g.1, faults::k_of(n / 24 % 8));
     let len = faults::length_of(n / 192 % 6, s.len);
     let out = faults::length_of(n / 1152 % 6, s.out);
-    let lent = faults::length_of(n / 6912 % 6, s.room);
-    fill::first(m, len, g.1, 0, fill::start(n, 3333333));
-    let dirty = refused::soil(m, g.0, g.1, n / 41472 % 5);
-    let s = s.lent(len, out, 0, lent);
-    inversion::right(m, copy, wide, result, room, s, first(s, dirty))
+    s.lent(len, out, 0, faults::length_of(n / 6912 % 6, s.room))
+}
+
+fn case(n: usize) -> bool {
+    let mut m = [0u64; shape::MATRIX];
+    let mut result = [0u64; shape::MATRIX];
+    let s = shape_of(n);
+    fill::first(&mut m, s.len, s.columns, 0, fill::start(n, 3333333));
+    let dirty = refused::soil(&mut m, s.rows, s.columns, n / 41472 % 5);
+    let number = faults::first(of_numbers(s), of_buffers(s, dirty));
+    inversion::right(&m, &mut result, s, number)
 }
 
 // each eleventh combination
 pub fn all() -> Tally {
-    let mut m = [0u64; shape::MATRIX];
-    let mut copy = [0u64; shape::MATRIX];
-    let mut wide = [0u64; shape::PACKETS];
-    let mut result = [0u64; shape::MATRIX];
-    let mut room = [0u64; shape::ROOM];
     let mut t = Tally::none();
     let mut n = 0;
     while n < 207360 {
-        t = t.count(case(&mut m, &mut copy, &mut wide, &mut result, &mut room, n));
+        t = t.count(case(n));
         n += 11;
     }
     t

@@ -50,71 +50,54 @@ fn numbers(n: usize) -> Given {
     }
 }
 
-// the first fault in the order of the requirements, or 0
-fn first(s: Shape, dirty: bool) -> u8 {
-    if 512 < s.rows {
-        return 1;
-    }
-    if s.columns == 0 || 1024 < s.columns {
-        return 2;
-    }
-    if s.n == 0 || s.columns <= s.n {
-        return 7;
-    }
-    let all = buffer::sum(s.columns, s.rows);
-    if 1024 < all {
-        return 11;
-    }
-    if s.k == 0 || 8 < s.k {
-        return 3;
-    }
-    if s.len != buffer::place(s.rows, buffer::width(s.columns), 0) {
-        return 4;
-    }
-    if s.out != buffer::width(s.rows) {
-        return 13;
-    }
-    let room = buffer::place(
-        buffer::sum(s.rows, buffer::pow2(s.k)),
-        buffer::width(all),
-        0,
-    );
-    if s.room < room {
-        return 6;
-    }
-    if dirty { 5 } else { 0 }
+// the first fault of the numbers in the order of the requirements, or 0
+fn of_numbers(s: Shape) -> u8 {
+    let wide = if 1024 < buffer::sum(s.columns, s.rows) {
+        11
+    } else {
+        0
+    };
+    let later = faults::first(wide, faults::window(s.k));
+    let blocks = faults::first(faults::blocks(s.columns, s.n), later);
+    faults::first(faults::size(s.rows, s.columns), blocks)
 }
 
-fn case(
-    m: &mut [u64],
-    copy: &mut [u64],
-    wide: &mut [u64],
-    named: &mut [u64],
-    room: &mut [u64],
-    n: usize,
-) -> bool {
+// and of the lengths and the padding, where the numbers are right
+fn of_buffers(s: Shape, dirty: bool) -> u8 {
+    let words = faults::words(s.rows, s.columns, s.len);
+    let names = if s.out == buffer::width(s.rows) {
+        0
+    } else {
+        13
+    };
+    let later = faults::first(names, faults::room_beside(s, dirty));
+    faults::first(words, later)
+}
+
+fn shape_of(n: usize) -> Shape {
     let g = numbers(n % 32);
     let s = shape::naming(g.0, g.1, g.2, faults::k_of(n / 32 % 8));
     let len = faults::length_of(n / 256 % 6, s.len);
     let out = faults::length_of(n / 1536 % 6, s.out);
-    let lent = faults::length_of(n / 9216 % 6, s.room);
-    fill::first(m, len, g.1, 0, fill::start(n, 5555555));
-    let dirty = refused::soil(m, g.0, g.1, n / 55296 % 5);
-    let s = s.lent(len, out, 0, lent);
-    naming::right(m, copy, wide, named, room, s, first(s, dirty))
+    s.lent(len, out, 0, faults::length_of(n / 9216 % 6, s.room))
+}
+
+fn case(n: usize) -> bool {
+    let mut m = [0u64; shape::MATRIX];
+    let mut named = [0u64; 16];
+    let s = shape_of(n);
+    fill::first(&mut m, s.len, s.columns, 0, fill::start(n, 5555555));
+    let dirty = refused::soil(&mut m, s.rows, s.columns, n / 55296 % 5);
+    let number = faults::first(of_numbers(s), of_buffers(s, dirty));
+    naming::right(&m, &mut named, s, number)
 }
 
 // each thirteenth combination
 pub fn all() -> Tally {
-    let mut m = [0u64; shape::MATRIX];
-    let mut copy = [0u64; shape::MATRIX];
-    let mut wide = [0u64; shape::PACKETS];
-    let mut named = [0u64; 16];
-    let mut room = [0u64; shape::ROOM];
     let mut t = Tally::none();
     let mut n = 0;
     while n < 276480 {
-        t = t.count(case(&mut m, &mut copy, &mut wide, &mut named, &mut room, n));
+        t = t.count(case(n));
         n += 13;
     }
     t

@@ -50,65 +50,54 @@ fn numbers(n: usize) -> Given {
     }
 }
 
-// the first fault in the order of the requirements, or 0
-fn first(s: Shape, dirty: bool) -> u8 {
-    if 512 < s.rows {
-        return 1;
-    }
-    if s.columns == 0 || 1024 < s.columns {
-        return 2;
-    }
-    if s.n == 0 || s.columns <= s.n {
-        return 7;
-    }
-    if s.k == 0 || 8 < s.k {
-        return 3;
-    }
-    let w = buffer::width(s.columns);
-    if s.len != buffer::place(s.rows, w, 0) {
-        return 4;
-    }
-    let v = buffer::width(shape::payload(s.columns, s.n));
-    if s.out != buffer::place(s.n, v, 0) || s.marks != s.n {
-        return 13;
-    }
-    if s.room < buffer::place(buffer::pow2(s.k), w, 0) {
-        return 6;
-    }
-    if dirty { 5 } else { 0 }
+// the first fault of the numbers in the order of the requirements, or 0
+fn of_numbers(s: Shape) -> u8 {
+    let later = faults::first(faults::blocks(s.columns, s.n), faults::window(s.k));
+    faults::first(faults::size(s.rows, s.columns), later)
 }
 
-fn case(
-    m: &mut [u64],
-    copy: &mut [u64],
-    image: &mut [u64],
-    known: &mut [u8],
-    room: &mut [u64],
-    n: usize,
-) -> bool {
+fn of_image(s: Shape) -> u8 {
+    let v = buffer::width(shape::payload(s.columns, s.n));
+    if s.out != buffer::place(s.n, v, 0) || s.marks != s.n {
+        13
+    } else {
+        0
+    }
+}
+
+// and of the lengths and the padding, where the numbers are right
+fn of_buffers(s: Shape, dirty: bool) -> u8 {
+    let words = faults::words(s.rows, s.columns, s.len);
+    let room = faults::room(s, 0, buffer::width(s.columns), dirty);
+    faults::first(words, faults::first(of_image(s), room))
+}
+
+fn shape_of(n: usize) -> Shape {
     let g = numbers(n % 32);
     let s = shape::solving(g.0, g.1, g.2, faults::k_of(n / 32 % 8));
     let len = faults::length_of(n / 256 % 6, s.len);
     let out = faults::length_of(n / 1536 % 6, s.out);
     let bytes = faults::length_of(n / 9216 % 6, s.marks);
-    let lent = faults::length_of(n / 55296 % 6, s.room);
-    fill::first(m, len, g.1, 0, fill::start(n, 4444444));
-    let dirty = refused::soil(m, g.0, g.1, n / 331776 % 5);
-    let s = s.lent(len, out, bytes, lent);
-    solving::right(m, copy, image, known, room, s, first(s, dirty))
+    s.lent(len, out, bytes, faults::length_of(n / 55296 % 6, s.room))
+}
+
+fn case(n: usize) -> bool {
+    let mut m = [0u64; shape::MATRIX];
+    let mut image = [0u64; shape::MATRIX];
+    let mut known = [0u8; shape::MARKS];
+    let s = shape_of(n);
+    fill::first(&mut m, s.len, s.columns, 0, fill::start(n, 4444444));
+    let dirty = refused::soil(&mut m, s.rows, s.columns, n / 331776 % 5);
+    let number = faults::first(of_numbers(s), of_buffers(s, dirty));
+    solving::right(&mut m, &mut image, &mut known, s, number)
 }
 
 // each thirty-seventh combination
 pub fn all() -> Tally {
-    let mut m = [0u64; shape::MATRIX];
-    let mut copy = [0u64; shape::MATRIX];
-    let mut image = [0u64; shape::MATRIX];
-    let mut known = [0u8; shape::MARKS];
-    let mut room = [0u64; shape::ROOM];
     let mut t = Tally::none();
     let mut n = 0;
     while n < 1658880 {
-        t = t.count(case(&mut m, &mut copy, &mut image, &mut known, &mut room, n));
+        t = t.count(case(n));
         n += 37;
     }
     t

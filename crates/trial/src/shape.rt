@@ -32,13 +32,13 @@ pub fn matrix(rows: usize, columns: usize) -> usize {
 }
 
 // the words of so many rows and a table, cut down in the same way
-pub fn table(more: usize, k: usize, columns: usize) -> usize {
+fn table(more: usize, k: usize, columns: usize) -> usize {
     let rows = buffer::sum(buffer::least(more, 513), buffer::pow2(buffer::least(k, 8)));
     buffer::place(rows, buffer::least(buffer::width(columns), 17), 0)
 }
 
 // columns with an identity of so many rows beside them
-pub fn beside(columns: usize, rows: usize) -> usize {
+fn beside(columns: usize, rows: usize) -> usize {
     buffer::sum(buffer::least(columns, 1025), buffer::least(rows, 513))
 }
 
@@ -46,7 +46,21 @@ pub fn payload(columns: usize, n: usize) -> usize {
     if n < columns { columns - n } else { 0 }
 }
 
-// the lengths that the inverse asks for
+// the lengths that the reduction asks for
+pub fn reduction(rows: usize, columns: usize, k: usize) -> Shape {
+    Shape {
+        rows: rows,
+        columns: columns,
+        n: 0,
+        k: k,
+        len: matrix(rows, columns),
+        out: 0,
+        marks: 0,
+        room: table(0, k, columns),
+    }
+}
+
+// those that the inverse asks for
 pub fn inverse(rows: usize, columns: usize, k: usize) -> Shape {
     Shape {
         rows: rows,
@@ -94,6 +108,14 @@ impl Shape {
     // with so many words more of room than needed
     pub fn roomy(self, more: usize) -> Shape {
         self.lent(self.len, self.out, self.marks, buffer::sum(self.room, more))
+    }
+
+    // the words of the room that a call with an identity beside its matrix leaves zero, if it is told that number
+    pub fn zeros(self, number: u8) -> usize {
+        if number != 0 {
+            return 0;
+        }
+        table(self.rows, self.k, beside(self.columns, self.rows))
     }
 
     // with other lengths

@@ -106,82 +106,53 @@ fn due(number: u8, pivots: &[u64], rank: usize, n: usize) -> u8 {
     }
 }
 
-// whether the answer, and what the call left, is what was wanted; copy is reduced, or as the matrix was
+// whether the answer, the image and the marks are what was wanted, with the matrix reduced where the call passed the checks
 fn judged(
-    m: &[u64],
-    copy: &[u64],
+    reduced: &[u64],
     image: &[u64],
     known: &[u8],
-    room: &[u64],
     s: Shape,
     number: u8,
     a: Answer,
     want: Wanted,
-    pivots: &[u64; 512],
 ) -> bool {
-    if !call::left(m, copy, room, want.zeros) {
-        return false;
-    }
-    let number = due(number, pivots, want.rank, s.n);
+    let pivots = want.pivots;
+    let number = due(number, &pivots, want.rank, s.n);
     if number != 0 {
-        let none = [65535u64; 512];
-        let told = call::answered(a, number, Wanted::nothing(), &none);
+        let told = call::answered(a, number, Wanted::nothing());
         return told && keep::kept(image) && marks::kept(known);
     }
-    if !blocks(copy, pivots, want.rank, s.columns, s.n, image, known) {
+    if !blocks(reduced, &pivots, want.rank, s.columns, s.n, image, known) {
         return false;
     }
-    call::answered(a, 0, want.with(marks::known(known)), pivots)
+    call::answered(a, 0, want.with(marks::known(known)))
 }
 
+// the call, with a room of ones, and image and marks laid
 fn held(
     m: &mut [u64],
-    copy: &mut [u64],
     image: &mut [u64],
     known: &mut [u8],
     room: &mut [u64],
     s: Shape,
     number: u8,
 ) -> bool {
-    let mut pivots = [65535u64; 512];
-    let want = call::foresee(copy, s.rows, s.columns, s.k, number, &mut pivots);
+    let mut copy = [0u64; shape::MATRIX];
+    buffer::copy(m, &mut copy);
+    let want = call::foresee(&mut copy, s, number);
     let a = packets::solve(m, s.rows, s.columns, s.n, s.k, image, known, room);
-    judged(m, copy, image, known, room, s, number, a, want, &pivots)
+    let left = call::left(m, &copy, room, want.zeros);
+    left & judged(&copy, image, known, s, number, a, want)
 }
 
 // whether the call answers that number (0: past the checks), with all that follows from it
-pub fn right(
-    m: &mut [u64],
-    copy: &mut [u64],
-    image: &mut [u64],
-    known: &mut [u8],
-    room: &mut [u64],
-    s: Shape,
-    number: u8,
-) -> bool {
-    let len = s.len;
-    let out = s.out;
-    let few = s.marks;
-    let lent = s.room;
-    if m.len() < len {
-        return false;
-    }
-    if image.len() < out {
-        return false;
-    }
-    if known.len() < few {
-        return false;
-    }
-    if room.len() < lent {
-        return false;
-    }
-    let part = &mut m[..len];
-    let blocks = &mut image[..out];
-    let bytes = &mut known[..few];
-    let work = &mut room[..lent];
-    buffer::copy(part, copy);
-    keep::lay(blocks);
-    marks::lay(bytes);
-    buffer::all_ones(work);
-    held(part, copy, blocks, bytes, work, s, number)
+pub fn right(m: &mut [u64], image: &mut [u64], known: &mut [u8], s: Shape, number: u8) -> bool {
+    let mut room = [buffer::ONES; shape::ROOM];
+    keep::lay(image);
+    marks::lay(known);
+    let part = buffer::part_mut(m, s.len);
+    let blocks = buffer::part_mut(image, s.out);
+    let bytes = marks::part_mut(known, s.marks);
+    let work = buffer::part_mut(&mut room, s.room);
+    held(part, blocks, bytes, work, s, number)
 }

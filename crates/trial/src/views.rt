@@ -1,5 +1,6 @@
 // Row views: the row's own words, padding and all, or the empty part.
 use super::buffer;
+use super::faults;
 use super::fill;
 use super::refused;
 use super::shape;
@@ -18,16 +19,9 @@ fn index_of(n: usize, rows: usize) -> usize {
 
 // the first fault in the order of the requirements, or 0
 fn first(rows: usize, columns: usize, len: usize, i: usize) -> u8 {
-    if 512 < rows {
-        return 1;
-    }
-    if columns == 0 || 1024 < columns {
-        return 2;
-    }
-    if len != buffer::place(rows, buffer::width(columns), 0) {
-        return 4;
-    }
-    if i < rows { 0 } else { 12 }
+    let row = if i < rows { 0 } else { 12 };
+    let later = faults::first(faults::words(rows, columns, len), row);
+    faults::first(faults::size(rows, columns), later)
 }
 
 // whether the view is the w words of row i
@@ -59,26 +53,23 @@ fn right(m: &[u64], rows: usize, columns: usize, i: usize) -> bool {
 }
 
 // case n; whole words are filled, so that the padding is dirty
-fn case(m: &mut [u64], n: usize, x: u64) -> bool {
+fn case(n: usize, x: u64) -> bool {
+    let mut m = [0u64; shape::MATRIX];
     let rows = refused::rows_of(n % 8);
     let columns = refused::columns_of(n / 8 % 10);
     let len = refused::length_of(n / 80 % 4, shape::matrix(rows, columns));
-    let i = index_of(n / 320 % 6, rows);
-    if m.len() < len {
-        return false;
-    }
-    let part = &mut m[..len];
-    fill::fill(part, 64, 0, x);
-    right(part, rows, columns, i)
+    fill::first(&mut m, len, 64, 0, x);
+    let part = buffer::part(&m, len);
+    right(part, rows, columns, index_of(n / 320 % 6, rows))
 }
 
-pub fn all(m: &mut [u64]) -> Tally {
+pub fn all() -> Tally {
     let mut t = Tally::none();
     let mut x = 521288629521288629;
     let mut n = 0;
     while n < 1920 {
         x = fill::next(x);
-        t = t.count(case(m, n, x));
+        t = t.count(case(n, x));
         n += 1;
     }
     t

@@ -1,5 +1,5 @@
 -- The two orders of bits in a word. Kind 1 has column c at weight 2 ^ (c mod 64), kind 2 at weight 2 ^ (63 - c mod 64).
-use mathlib.Core.Bool.{Bool, true, false, cond}
+use mathlib.Core.Bool.{cond}
 use mathlib.Core.List.{List, [], _∷_, _++_}
 use Prim.Native.Nat.{ℕ, zero, suc, _+_, _*_, _/_, _%_, _^_}
 use lib.Dec.{eqb}

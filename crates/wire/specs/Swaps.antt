@@ -1,4 +1,4 @@
--- Neighbours of s bits change places: the steps by which a word is reversed.
+-- Neighbours of s bits change places: the steps by which a word is reversed. No public promise cites any of it.
 use Prim.Native.Nat.{ℕ, zero, suc, _+_, _-_, _*_, _/_, _%_, _^_}
 
 -- n pairs of neighbours of s bits, each pair in the other order

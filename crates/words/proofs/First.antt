@@ -1,7 +1,7 @@
 -- A number written to words: its w lowest words, and each word as the 64 columns from its place on.
 use mathlib.Core.Path.{_≡_, refl, sym, ap, ap₂, _∙_, subst}
 use mathlib.Core.List.{List, [], _∷_}
-use Prim.Native.Nat.{ℕ, zero, suc, _+_, _-_, _*_, _/_, _%_, _^_, _<_}
+use Prim.Native.Nat.{ℕ, zero, suc, _+_, _-_, _*_, _/_, _%_, _^_, _≤_, _<_}
 use native.Mathlib.Nat.{mod-lt, mul-zero, mul-mod-left, add-zero, div-one, zero-div, div-add-mod'}
 use native.Mathlib.Omega.{arith}
 use lib.Bits.{bitOr, or-shifted-r, xor-mod, xor-shr}
@@ -45,6 +45,13 @@ window-shift c d v = ap (λ (x : ℕ). x % 2 ^ 64) (shr-shr v c d)
 pub window-sum : (c u v : ℕ) → windowBits c 64 u ⊕ windowBits c 64 v ≡ windowBits c 64 (u ⊕ v)
 window-sum c u v = sym (ap (λ (x : ℕ). x % 2 ^ 64) (xor-shr u v c) ∙ xor-mod (u / 2 ^ c) (v / 2 ^ c) 64)
 
+-- a word moved up by s columns keeps its lowest 64 - s
+pub moved-up : (x s : ℕ) → s ≤ 64 → x * 2 ^ s % 2 ^ 64 ≡ x % 2 ^ (64 - s) * 2 ^ s
+moved-up x s h =
+    let e : 64 ≡ 64 - s + s = omega arith in
+    ap (λ (k : ℕ). x * 2 ^ s % 2 ^ k) e ∙ mod-pow-add (x * 2 ^ s) (64 - s) s
+    ∙ ap₂ (λ (a b : ℕ). a % 2 ^ (64 - s) * 2 ^ s + b) (shl-shr x s) (mul-mod-left x (2 ^ s)) ∙ add-zero (x % 2 ^ (64 - s) * 2 ^ s)
+
 -- ---- windows of the row that words hold, word by word
 
 -- word l is the 64 columns from column 64 l on
@@ -78,9 +85,8 @@ module _ (ws : List ℕ) (c : ℕ) (f : Fit ws) where
       let ds : 64 ≡ d + s = omega arith in
       let cs : 64 * l + s ≡ c = omega arith in
       let next : 64 * l + 64 ≡ 64 * (l + 1) = omega arith in
-      let up : y * 2 ^ d % 2 ^ 64 ≡ y % 2 ^ s * 2 ^ d =
-      ap (λ (e : ℕ). y * 2 ^ d % 2 ^ e) (sym sd) ∙ mod-pow-add (y * 2 ^ d) s d
-      ∙ ap₂ (λ (p q : ℕ). p % 2 ^ s * 2 ^ d + q) (shl-shr y d) (mul-mod-left y (2 ^ d)) ∙ add-zero (y % 2 ^ s * 2 ^ d) in
+      let back : 64 - d ≡ s = omega arith in
+      let up : y * 2 ^ d % 2 ^ 64 ≡ y % 2 ^ s * 2 ^ d = moved-up y d (omega arith) ∙ ap (λ (e : ℕ). y % 2 ^ e * 2 ^ d) back in
       let small : x / 2 ^ s < 2 ^ d = shr-lt d s (subst (λ (e : ℕ). x < 2 ^ e) ds (f l)) in
       let upper : u / 2 ^ s % 2 ^ d ≡ x / 2 ^ s =
       sym (field u d s) ∙ ap (λ (e : ℕ). u % 2 ^ e / 2 ^ s) (sym ds) ∙ ap (λ (n : ℕ). n / 2 ^ s) (sym (value-word ws l f)) in

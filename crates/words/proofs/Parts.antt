@@ -2,7 +2,7 @@
 -- with the first j words of X from word a on. Each law named `..-turn` is one turn of such a loop.
 use mathlib.Core.Path.{_≡_, refl, sym, ap, ap₂, _∙_, subst}
 use mathlib.Core.List.{List, [], _∷_, _++_}
-use mathlib.Core.Logic.{⊎-elim}
+use mathlib.Core.Logic.{_⊎_, ⊎-elim}
 use Prim.Native.Nat.{ℕ, zero, suc, _+_, _-_, _<_, _≤_}
 use native.Mathlib.Nat.{zero-add, le-of-suc-le-suc, not-suc-le-zero, suc-add}
 use native.Mathlib.Numerals.{add-one}
@@ -11,7 +11,11 @@ use lib.Bits.{bitXor, xor-zero-r}
 use lib.ListN.{length, getD, take, drop, set, replicate, length-drop, length-replicate, getD-replicate, List·getD-append}
 use lib.Seq.{paste, paste-suc, length-paste, length-paste-head, ext-getD, getD-append-add, getD-take, getD-drop, length-take-le, set-append-left, take-set-lt, drop-set-lt, drop-set-add, take-set-le, drop-drop, drop-paste}
 use Rattle.gf2.specs.Rows.{part}
-use Rattle.words.specs.Words.{xors, Apart}
+use Rattle.words.specs.Words.{xors}
+
+-- two parts of w words that do not overlap
+abbrev pub Apart : ℕ → ℕ → ℕ → Type 0
+Apart a b w = (a + w ≤ b) ⊎ (b + w ≤ a)
 
 -- ---- word by word
 

@@ -11,14 +11,17 @@ use lib.ListN.{length, getD, take, drop, set, length-set, length-drop, length-ap
 use lib.Seq.{paste, ext-getD, getD-set-same, getD-set-other, set-getD, set-set, length-paste, length-take-le, take-all, take-nil, take-add, take-take, take-append-le, drop-append-le, drop-drop}
 use Rattle.gf2.specs.Rows.{bit, _⊕_, row, part, swapped, pick}
 use Rattle.gf2.proofs.Bits.{bit-lt}
-use Rattle.words.specs.Words.{wordsOf, Fit, value, rowsOf, xors, Apart}
-use Rattle.words.proofs.Parts.{length-xors, length-part, getD-part, part-same, paste-before, paste-in, paste-after, drop-past}
+use Rattle.words.specs.Words.{wordsOf, Fit, value, rowsOf, xors}
+use Rattle.words.proofs.Parts.{Apart, length-xors, length-part, getD-part, part-same, paste-before, paste-in, paste-after, drop-past}
 use Rattle.words.proofs.Value.{value-one, fit-take, fit-drop, part-fits, part-sum, last-word-padding, last-word-full}
 
 -- ---- where the rows stand
 
 pub row-ends : (i n w : ℕ) → i < n → i * w + w ≤ n * w
 row-ends i n w h = omega (arith, mul-le-mul-right w h)
+
+pub row-end : (m : List ℕ) (w n i : ℕ) → n * w ≤ length m → i < n → i * w + w ≤ length m
+row-end m w n i hm hi = omega (arith, row-ends i n w hi)
 
 pub apart : (i p w : ℕ) → i ≢ p → Apart (i * w) (p * w) w
 apart i p w ne = go (decLt i p)

@@ -3,13 +3,9 @@ use mathlib.Core.Path.{_≡_, sym, ap₂, _∙_}
 use mathlib.Core.List.{List, _++_}
 use Prim.Native.Nat.{ℕ, _*_, _≤_}
 use lib.ListN.{length, drop, take-append-drop}
-use Rattle.words.specs.Words.{Fit, value, rowsOf}
+use Rattle.words.specs.Words.{Fit, Slice, value, rowsOf}
 use Rattle.words.proofs.Value.{value-one}
 use Rattle.words.proofs.Rows.{rows-one, rows-one-all}
-
-pub record Slice (m m′ : List ℕ) : Type 0 where
-  pub size : length m′ ≡ length m
-  pub fit : Fit m′
 
 -- rows and what lies past them fix the words
 pub same-words : (w n : ℕ) (x y : List ℕ) → Fit x → Fit y → n * w ≤ length x → n * w ≤ length y → rowsOf w n x ≡ rowsOf w n y → drop (n * w) x ≡ drop (n * w) y → x ≡ y

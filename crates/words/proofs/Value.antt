@@ -47,9 +47,8 @@ column-bit (x ∷ ws) f c = go (column-bit ws (λ i. f (suc i))) (decLt c 64)
         ∙ ap₂ (λ (i k : ℕ). bit k (getD (x ∷ ws) i 0)) q r
 
 -- THEOREM: the row has no one past its last column exactly if its words' bits there, the padding, are zero
-pub padding : (ws : List ℕ) → Fit ws → (columns : ℕ) → length ws ≡ wordsOf columns
-    → (value ws < 2 ^ columns) ↔ ((c : ℕ) → columns ≤ c → c < 64 * length ws → bit (c % 64) (getD ws (c / 64) 0) ≡ 0)
-padding ws f columns _ = (
+pub padding : (ws : List ℕ) → Fit ws → (columns : ℕ) → (value ws < 2 ^ columns) ↔ ((c : ℕ) → columns ≤ c → c < 64 * length ws → bit (c % 64) (getD ws (c / 64) 0) ≡ 0)
+padding ws f columns = (
   (λ h c l k. sym (column-bit ws f c) ∙ bit-above columns c (value ws) h l),
   (λ h. below-of-bits columns (value ws) (λ c l. go h c l (decLt c (64 * length ws)))),
 )

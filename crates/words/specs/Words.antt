@@ -1,9 +1,9 @@
 -- Words of 64 bits, and the rows that a buffer of words holds. Everything is said for any number of words a row.
+use mathlib.Core.Path.{_≡_}
 use mathlib.Core.List.{List, [], _∷_, _++_}
-use mathlib.Core.Logic.{_⊎_}
-use Prim.Native.Nat.{ℕ, zero, suc, _+_, _*_, _/_, _%_, _^_, _≤_, _<_}
+use Prim.Native.Nat.{ℕ, zero, suc, _+_, _*_, _/_, _%_, _^_, _<_}
 use lib.Bits.{bitXor}
-use lib.ListN.{getD, take, drop}
+use lib.ListN.{length, getD, take, drop}
 
 -- the words that a row of that many columns takes
 abbrev pub wordsOf : ℕ → ℕ
@@ -12,6 +12,11 @@ wordsOf columns = (columns + 63) / 64
 -- each word fits 64 bits
 abbrev pub Fit : List ℕ → Type 0
 Fit ws = (i : ℕ) → getD ws i 0 < 2 ^ 64
+
+-- a slice after a call: as long as before, and each word fits 64 bits
+pub record Slice (m m′ : List ℕ) : Type 0 where
+  pub size : length m′ ≡ length m
+  pub fit : Fit m′
 
 -- the row that words hold, as one number: the first word is the lowest
 abbrev pub value : List ℕ → ℕ
@@ -28,10 +33,6 @@ abbrev pub xors : List ℕ → List ℕ → List ℕ
 xors [] ys = []
 xors (x ∷ xs) [] = x ∷ xs
 xors (x ∷ xs) (y ∷ ys) = bitXor x y ∷ xors xs ys
-
--- two parts of w words that do not overlap
-abbrev pub Apart : ℕ → ℕ → ℕ → Type 0
-Apart a b w = (a + w ≤ b) ⊎ (b + w ≤ a)
 
 -- the k columns of a row from column c on, as one number
 abbrev pub windowBits : ℕ → ℕ → ℕ → ℕ

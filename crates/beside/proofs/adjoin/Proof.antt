@@ -5,7 +5,8 @@ use Prim.Native.Nat.{ℕ, _-_, _≤_}
 use native.Mathlib.Omega.{arith}
 use lib.ListN.{length}
 use Rattle.words.proofs.Value.{fits-fit}
-use Rattle.beside.proofs.Rows.{row-end, Adjoined, adjoined-none, adjoined-more, adjoined-all}
+use Rattle.words.proofs.Rows.{row-end}
+use Rattle.beside.proofs.Rows.{Adjoined, adjoined-none, adjoined-more, adjoined-all}
 use borrow.Author.Needs.{needs}
 use Rattle.beside.proofs.adjoin.Statement.{statement}
 use Rattle.beside.proofs.adjoin.Tie as tie
@@ -42,7 +43,7 @@ put-requires : tie.Need-put-requires Inv-loop μ-loop
 put-requires c κs =
     let s = c .before .before in
     let g = s .before .before .before .args in
-    (row-end (s .loop .room) (g .v) (g .rows) (s .loop .i) (search needs) (search needs), row-end (now (g .m)) (g .w) (g .rows) (s .loop .i) (search needs) (search needs))
+    row-end (s .loop .room) (g .v) (g .rows) (s .loop .i) (search needs) (search needs)
 
 add-i : tie.Need-add-i Inv-loop μ-loop
 add-i c = search needs

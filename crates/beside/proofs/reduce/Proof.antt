@@ -3,9 +3,9 @@ use denote.Ref.{now}
 use mathlib.Core.Path.{refl}
 use native.Mathlib.Nat.{le-refl}
 use native.Mathlib.Omega.{arith}
-use lib.ListN.{length}
-use Rattle.beside.specs.Beside.{Fits}
-use Rattle.beside.proofs.Fitting.{fits-so, fits-not, adjoin-fits, reduced-beside}
+use borrow.Author.Tests.{not-true, not-false}
+use Rattle.refusals.proofs.Passed.{yes-so, not-so}
+use Rattle.beside.proofs.Fitting.{adjoin-fits, reduced-beside}
 use borrow.Author.Needs.{needs}
 use Rattle.beside.proofs.reduce.Statement.{statement}
 use Rattle.beside.proofs.reduce.Tie as tie
@@ -14,13 +14,13 @@ fits-requires : tie.Need-fits-requires
 fits-requires c κs = search needs
 
 returns : tie.Need-returns
-returns c = let g = c .before .before .before .before .args in (fits-not (Fits (g .rows) (g .columns) (g .k) (now (g .m)) (length (now (g .room)))) (c .before .fits2 .result) (c .before .fits2 .ensures) (c .if1 .taken), refl)
+returns c = let g = c .before .before .before .before .args in (not-so (c .before .fits2 .result) (c .before .fits2 .ensures) (not-true (c .before .fits2 .result) (c .if1 .taken)), refl)
 
 add-words : tie.Need-add-words
 add-words c =
     let s = c .before in
     let g = s .before .before .before .before .args in
-    let f = fits-so (Fits (g .rows) (g .columns) (g .k) (now (g .m)) (length (now (g .room)))) (s .before .fits2 .result) (s .before .fits2 .ensures) (s .if1 .left) in
+    let f = yes-so (s .before .fits2 .result) (s .before .fits2 .ensures) (not-false (s .before .fits2 .result) (s .if1 .left)) in
     omega (arith, f .wide)
 
 words-requires : tie.Need-words-requires
@@ -33,14 +33,14 @@ adjoin-requires : tie.Need-adjoin-requires
 adjoin-requires c κs =
     let s = c .before .before .before in
     let g = s .before .before .before .before .args in
-    let f = fits-so (Fits (g .rows) (g .columns) (g .k) (now (g .m)) (length (now (g .room)))) (s .before .fits2 .result) (s .before .fits2 .ensures) (s .if1 .left) in
+    let f = yes-so (s .before .fits2 .result) (s .before .fits2 .ensures) (not-false (s .before .fits2 .result) (s .if1 .left)) in
     adjoin-fits (g .rows) (g .columns) (g .k) (now (g .m)) (now (g .room)) (c .before .words .result) (c .words2 .result) (c .before .words .ensures) (c .words2 .ensures) f
 
 add-eliminate-in : tie.Need-add-eliminate-in
 add-eliminate-in c =
     let s = c .before .before .before .before .before .before .before in
     let g = s .before .before .before .before .args in
-    let f = fits-so (Fits (g .rows) (g .columns) (g .k) (now (g .m)) (length (now (g .room)))) (s .before .fits2 .result) (s .before .fits2 .ensures) (s .if1 .left) in
+    let f = yes-so (s .before .fits2 .result) (s .before .fits2 .ensures) (not-false (s .before .fits2 .result) (s .if1 .left)) in
     omega (arith, f .wide)
 
 slice-aggregate-eliminate-in : tie.Need-slice-aggregate-eliminate-in
@@ -59,7 +59,7 @@ returns-2 c =
     let w = a .before in
     let s = v .before .before in
     let g = s .before .before .before .before .args in
-    let f = fits-so (Fits (g .rows) (g .columns) (g .k) (now (g .m)) (length (now (g .room)))) (s .before .fits2 .result) (s .before .fits2 .ensures) (s .if1 .left) in
+    let f = yes-so (s .before .fits2 .result) (s .before .fits2 .ensures) (not-false (s .before .fits2 .result) (s .if1 .left)) in
     reduced-beside (g .rows) (g .columns) (g .k) (now (g .m)) (now (g .room)) (v .words .result) (w .words2 .result) (v .words .ensures) (w .words2 .ensures) f (a .adjoin .last .0) (search needs) (a .adjoin .ensures .0) (a .adjoin .ensures .1)
     (c .before .before .before .eliminate-in .result .done) _ _ (c .before .before .before .eliminate-in .last .0) _ _ (le-refl 512) (c .before .before .before .eliminate-in .ensures)
 

@@ -35,7 +35,7 @@ same-length c = search needs
 
 returns : tie.Need-returns
 unfolding refusedText ascii
-returns c = let g = c .before .before .before .before .before .before .before .before .before .before .before .before .before .before .before .before .args in put-then (put-then (c .before .before .before .before .before .before .before .before .before .before .before .before .bytes .ensures) (subst (λ (n : ℕ). Put (c .before .before .before .before .before .before .before .before .before .before .before .before .bytes .result) (decimal n) (c .before .before .before .before .before .before .before .before .before .before .before .before .bytes .last .0) (c .before .before .before .before .before .before .before .decimal .result) (c .before .before .before .before .before .before .before .decimal .last .0)) (c .before .before .before .before .before .before .before .before .number .ensures) (c .before .before .before .before .before .before .before .decimal .ensures))) (c .before .before .bytes2 .ensures)
+returns c = put-then (put-then (c .before .before .before .before .before .before .before .before .before .before .before .before .bytes .ensures) (subst (λ (n : ℕ). Put (c .before .before .before .before .before .before .before .before .before .before .before .before .bytes .result) (decimal n) (c .before .before .before .before .before .before .before .before .before .before .before .before .bytes .last .0) (c .before .before .before .before .before .before .before .decimal .result) (c .before .before .before .before .before .before .before .decimal .last .0)) (c .before .before .before .before .before .before .before .before .number .ensures) (c .before .before .before .before .before .before .before .decimal .ensures))) (c .before .before .bytes2 .ensures)
 
 pub refused-spec : {M : Type 1} → statement M
 refused-spec =

@@ -8,8 +8,7 @@ use Rattle.gf2.specs.Additions.{windows}
 use Rattle.gf2.proofs.Additions.{window-starts}
 use Rattle.words.specs.Words.{rowsOf}
 use Rattle.words.proofs.Rows.{length-rows}
-use Rattle.engine.specs.Stage.{Passed}
-use Rattle.engine.proofs.Windows.{passed-start, passed-next, finished, table-room, steps-small, table-small, turn-below, turn-added, turn-rest}
+use Rattle.engine.proofs.Windows.{Passed, passed-start, passed-next, finished, table-room, steps-small, table-small, turn-below, turn-added, turn-rest}
 use borrow.Author.Needs.{needs}
 use native.Mathlib.Omega.{arith}
 use Rattle.engine.proofs.all.Statement.{statement}

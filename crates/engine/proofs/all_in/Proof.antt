@@ -9,8 +9,7 @@ use Rattle.gf2.specs.Additions.{windows}
 use Rattle.gf2.proofs.Additions.{window-starts}
 use Rattle.words.specs.Words.{rowsOf}
 use Rattle.words.proofs.Rows.{length-rows}
-use Rattle.engine.specs.Stage.{Passed}
-use Rattle.engine.proofs.Windows.{passed-start, passed-next, finished, steps-small, table-small, room-less, pow-small, turn-below, turn-added, turn-rest-in}
+use Rattle.engine.proofs.Windows.{Passed, passed-start, passed-next, finished, steps-small, table-small, room-less, pow-small, turn-below, turn-added, turn-rest-in}
 use borrow.Author.Needs.{needs}
 use native.Mathlib.Omega.{arith}
 use Rattle.engine.proofs.all_in.Statement.{statement}

@@ -7,8 +7,9 @@ use lib.ListN.{length}
 use Rattle.words.specs.Words.{rowsOf}
 use Rattle.words.proofs.Rows.{length-rows}
 use Rattle.engine.specs.Stage.{Search}
-use Rattle.engine.proofs.Windows.{marks, no-pivots, cleared-all, windowed, no-additions, table-room, window-applies, window-rest}
+use Rattle.engine.proofs.Windows.{marks, no-pivots, cleared-all, windowed, no-additions, window-applies, window-rest}
 use native.Mathlib.Omega.{arith}
+use borrow.Author.Needs.{needs}
 use Rattle.engine.proofs.window.Statement.{statement}
 use Rattle.engine.proofs.window.Tie as tie
 
@@ -58,51 +59,45 @@ numbers-requires c κs =
       S .has,
     )
 
-first-requires : tie.Need-first-requires
-first-requires c κs =
-    let g = c .before .before .before .before .before .before .before .before .before .before .before .before .before .before .before .before .before .before .before .before .before .before .before .before .before .before .before .args in
-    let p = c .before .before .before .before .before .before .before .before .before .before .before .before .before .before .before .before .before .before .before .before .before .before .before .before .before .before .before .pre in
-    let S = c .before .before .before .before .before .before .before .before .before .before .before .before .before .before .before .before .before .search .ensures .0 in
-    let lm : length (c .before .before .before .before .before .before .before .before .before .before .before .before .before .before .before .before .before .search .last .0) ≡ length (now (g .m)) = c .before .before .before .before .before .before .before .before .before .before .before .before .before .before .before .before .before .search .kept .0 in
-    (record { fits = omega (arith, p .0 .fits); narrow = p .0 .narrow; few = p .0 .few }, omega (arith, S .room, c .before .before .before .before .before .before .before .before .if1 .left), omega (arith, p .4, table-room 1 (g .k) (g .w) (omega (arith, S .few, c .before .before .before .before .before .before .before .before .if1 .left))))
+sub-apply : tie.Need-sub-apply
+sub-apply c = search needs
 
 apply-requires : tie.Need-apply-requires
 apply-requires c κs =
-    let g = c .before .before .before .before .before .before .before .before .before .before .before .before .before .before .before .before .before .before .before .before .before .before .before .before .before .before .before .before .before .before .before .before .before .args in
-    let p = c .before .before .before .before .before .before .before .before .before .before .before .before .before .before .before .before .before .before .before .before .before .before .before .before .before .before .before .before .before .before .before .before .before .pre in
-    let s = c .before .before .before .before .before .before .before .before .before .before .before .before .before .before .before .before .before .before .before .before .before .before .before .search in
-    let f = c .before .before .before .before .before .first in
-    let u = c .before .before .before .before .before .before .before .before .before .before .numbers in
-    (window-applies (g .w) (g .n) (g .c) (g .k) (g .base) (s .result) (now (g .m)) (s .last .0) (now (g .t)) (f .last .0) (s .last .1 .1 .1 .1 .1 .1 .0) (s .last .1 .1 .1 .1 .1 .1 .1 .0) (s .last .1 .1 .1 .1 .1 .1 .1 .1 .0) (p .0) (s .kept .0) (p .3) (p .4) (s .ensures .0) (c .before .before .before .before .before .before .before .before .before .before .before .before .before .before .if1 .left) (f .ensures) (u .last .1 .1 .1 .1 .1 .1 .1 .0) (f .kept .0) (u .kept .1 .1 .1 .1 .1 .1 .1 .0) (u .ensures .small), p .8)
+    let g = c .before .before .before .before .before .before .before .before .before .before .before .before .before .before .before .before .before .before .before .before .before .before .before .before .before .before .before .before .args in
+    let p = c .before .before .before .before .before .before .before .before .before .before .before .before .before .before .before .before .before .before .before .before .before .before .before .before .before .before .before .before .pre in
+    let s = c .before .before .before .before .before .before .before .before .before .before .before .before .before .before .before .before .before .before .search in
+    let u = c .before .before .before .before .before .numbers in
+    (window-applies (g .w) (g .n) (g .c) (g .k) (g .base) (s .result) (now (g .m)) (s .last .0) (now (g .t)) (s .last .1 .1 .1 .1 .1 .1 .0) (s .last .1 .1 .1 .1 .1 .1 .1 .0) (s .last .1 .1 .1 .1 .1 .1 .1 .1 .0) (p .0) (s .kept .0) (p .1) (p .3) (p .4) (s .ensures .0) (u .last .1 .1 .1 .1 .1 .1 .1 .0) (u .kept .1 .1 .1 .1 .1 .1 .1 .0) (u .ensures .small), p .8)
 
 same-length-5 : tie.Need-same-length-5
-same-length-5 c = c .before .before .before .before .apply .kept .1 .0 ∙ c .before .before .before .before .before .before .before .before .before .before .before .before .before .before .before .before .before .before .before .before .before .before .before .before .before .before .before .before .search .kept .0
+same-length-5 c = c .before .before .before .before .apply .kept .1 .0 ∙ c .before .before .before .before .before .before .before .before .before .before .before .before .before .before .before .before .before .before .before .before .before .before .before .search .kept .0
 
 same-length-6 : tie.Need-same-length-6
-same-length-6 c = c .before .before .before .before .apply .kept .1 .1 .1 .0 ∙ c .before .before .before .before .before .before .before .before .before .before .first .kept .0
+same-length-6 c = c .before .before .before .before .apply .kept .1 .1 .0
 
 same-length-7 : tie.Need-same-length-7
-same-length-7 c = c .before .before .before .before .before .before .before .before .before .before .before .before .before .before .before .numbers .kept .1 .1 .1 .1 .1 .1 .1 .0 ∙ c .before .before .before .before .before .before .before .before .before .before .before .before .before .before .before .before .before .before .before .before .before .before .before .before .before .before .before .before .search .kept .1 .1 .1 .1 .1 .1 .0
+same-length-7 c = c .before .before .before .before .before .before .before .before .before .before .numbers .kept .1 .1 .1 .1 .1 .1 .1 .0 ∙ c .before .before .before .before .before .before .before .before .before .before .before .before .before .before .before .before .before .before .before .before .before .before .before .search .kept .1 .1 .1 .1 .1 .1 .0
 
 same-length-8 : tie.Need-same-length-8
-same-length-8 c = c .before .before .before .before .before .before .before .before .before .before .before .before .before .before .before .before .before .before .before .before .before .before .before .before .before .before .before .before .search .kept .1 .1 .1 .1 .1 .1 .1 .0
+same-length-8 c = c .before .before .before .before .before .before .before .before .before .before .before .before .before .before .before .before .before .before .before .before .before .before .before .search .kept .1 .1 .1 .1 .1 .1 .1 .0
 
 same-length-9 : tie.Need-same-length-9
-same-length-9 c = c .before .before .before .before .before .before .before .before .before .before .before .before .before .before .before .before .before .before .before .before .before .before .before .before .before .before .before .before .search .kept .1 .1 .1 .1 .1 .1 .1 .1 .0
+same-length-9 c = c .before .before .before .before .before .before .before .before .before .before .before .before .before .before .before .before .before .before .before .before .before .before .before .search .kept .1 .1 .1 .1 .1 .1 .1 .1 .0
 
 returns-2 : tie.Need-returns-2
 returns-2 c =
-    let g = c .before .before .before .before .before .before .before .before .before .before .before .before .before .before .before .before .before .before .before .before .before .before .before .before .before .before .before .before .before .before .before .before .before .before .before .before .before .before .args in
-    let p = c .before .before .before .before .before .before .before .before .before .before .before .before .before .before .before .before .before .before .before .before .before .before .before .before .before .before .before .before .before .before .before .before .before .before .before .before .before .before .pre in
-    let s = c .before .before .before .before .before .before .before .before .before .before .before .before .before .before .before .before .before .before .before .before .before .before .before .before .before .before .before .before .search in
+    let g = c .before .before .before .before .before .before .before .before .before .before .before .before .before .before .before .before .before .before .before .before .before .before .before .before .before .before .before .before .before .before .before .before .before .args in
+    let p = c .before .before .before .before .before .before .before .before .before .before .before .before .before .before .before .before .before .before .before .before .before .before .before .before .before .before .before .before .before .before .before .before .before .pre in
+    let s = c .before .before .before .before .before .before .before .before .before .before .before .before .before .before .before .before .before .before .before .before .before .before .before .search in
     let r = s .result in
-    let M : List ℕ = rowsOf (g .w) (g .n) (c .before .before .before .before .before .before .before .before .before .before .before .before .before .before .before .before .before .before .before .before .before .before .before .before .before .before .before .before .search .last .0) in
-    let S : Search (g .n) (g .c) (g .k) (g .k) (g .base) r M (c .before .before .before .before .before .before .before .before .before .before .before .before .before .before .before .before .before .before .before .before .before .before .before .before .before .before .before .before .search .last .1 .1 .1 .1 .1 .1 .0) (c .before .before .before .before .before .before .before .before .before .before .before .before .before .before .before .before .before .before .before .before .before .before .before .before .before .before .before .before .search .last .1 .1 .1 .1 .1 .1 .1 .0) (c .before .before .before .before .before .before .before .before .before .before .before .before .before .before .before .before .before .before .before .before .before .before .before .before .before .before .before .before .search .last .1 .1 .1 .1 .1 .1 .1 .1 .0) = s .ensures .0 in
+    let M : List ℕ = rowsOf (g .w) (g .n) (c .before .before .before .before .before .before .before .before .before .before .before .before .before .before .before .before .before .before .before .before .before .before .before .search .last .0) in
+    let S : Search (g .n) (g .c) (g .k) (g .k) (g .base) r M (c .before .before .before .before .before .before .before .before .before .before .before .before .before .before .before .before .before .before .before .before .before .before .before .search .last .1 .1 .1 .1 .1 .1 .0) (c .before .before .before .before .before .before .before .before .before .before .before .before .before .before .before .before .before .before .before .before .before .before .before .search .last .1 .1 .1 .1 .1 .1 .1 .0) (c .before .before .before .before .before .before .before .before .before .before .before .before .before .before .before .before .before .before .before .before .before .before .before .search .last .1 .1 .1 .1 .1 .1 .1 .1 .0) = s .ensures .0 in
     let a = c .before .before .before .before .apply .ensures in (
-      windowed (g .n) (g .c) (g .k) (g .base) r M (c .before .before .before .before .before .before .before .before .before .before .before .before .before .before .before .before .before .before .before .before .before .before .before .before .before .before .before .before .search .last .1 .1 .1 .1 .1 .1 .0) (c .before .before .before .before .before .before .before .before .before .before .before .before .before .before .before .before .before .before .before .before .before .before .before .before .before .before .before .before .search .last .1 .1 .1 .1 .1 .1 .1 .0) (c .before .before .before .before .before .before .before .before .before .before .before .before .before .before .before .before .before .before .before .before .before .before .before .before .before .before .before .before .search .last .1 .1 .1 .1 .1 .1 .1 .1 .0) S (rowsOf (g .w) (g .n) (now (g .m))) (rowsOf (g .w) (g .n) (c .before .before .before .before .apply .last .1 .0)) (now (g .cols)) (s .ensures .1)
-          (a .now .rows ∙ cleared-all (g .n) (g .c) (g .k) (g .base) r M (c .before .before .before .before .before .before .before .before .before .before .before .before .before .before .before .before .before .before .before .before .before .before .before .before .before .before .before .before .search .last .1 .1 .1 .1 .1 .1 .0) (c .before .before .before .before .before .before .before .before .before .before .before .before .before .before .before .before .before .before .before .before .before .before .before .before .before .before .before .before .search .last .1 .1 .1 .1 .1 .1 .1 .0) (c .before .before .before .before .before .before .before .before .before .before .before .before .before .before .before .before .before .before .before .before .before .before .before .before .before .before .before .before .search .last .1 .1 .1 .1 .1 .1 .1 .1 .0) S (c .before .before .before .before .before .before .before .before .before .before .before .before .before .before .before .numbers .last .1 .1 .1 .1 .1 .1 .1 .0) (length-rows (g .w) (g .n) (c .before .before .before .before .before .before .before .before .before .before .before .before .before .before .before .before .before .before .before .before .before .before .before .before .before .before .before .before .search .last .0)) (c .before .before .before .before .before .before .before .before .before .before .before .before .before .before .before .numbers .ensures)) (s .ensures .2),
+      windowed (g .n) (g .c) (g .k) (g .base) r M (c .before .before .before .before .before .before .before .before .before .before .before .before .before .before .before .before .before .before .before .before .before .before .before .search .last .1 .1 .1 .1 .1 .1 .0) (c .before .before .before .before .before .before .before .before .before .before .before .before .before .before .before .before .before .before .before .before .before .before .before .search .last .1 .1 .1 .1 .1 .1 .1 .0) (c .before .before .before .before .before .before .before .before .before .before .before .before .before .before .before .before .before .before .before .before .before .before .before .search .last .1 .1 .1 .1 .1 .1 .1 .1 .0) S (rowsOf (g .w) (g .n) (now (g .m))) (rowsOf (g .w) (g .n) (c .before .before .before .before .apply .last .1 .0)) (now (g .cols)) (s .ensures .1)
+          (a .now .rows ∙ cleared-all (g .n) (g .c) (g .k) (g .base) r M (c .before .before .before .before .before .before .before .before .before .before .before .before .before .before .before .before .before .before .before .before .before .before .before .search .last .1 .1 .1 .1 .1 .1 .0) (c .before .before .before .before .before .before .before .before .before .before .before .before .before .before .before .before .before .before .before .before .before .before .before .search .last .1 .1 .1 .1 .1 .1 .1 .0) (c .before .before .before .before .before .before .before .before .before .before .before .before .before .before .before .before .before .before .before .before .before .before .before .search .last .1 .1 .1 .1 .1 .1 .1 .1 .0) S (c .before .before .before .before .before .before .before .before .before .before .numbers .last .1 .1 .1 .1 .1 .1 .1 .0) (length-rows (g .w) (g .n) (c .before .before .before .before .before .before .before .before .before .before .before .before .before .before .before .before .before .before .before .before .before .before .before .search .last .0)) (c .before .before .before .before .before .before .before .before .before .before .numbers .ensures)) (s .ensures .2),
       a .now .past ∙ s .ensures .3,
-      window-rest (g .w) (g .n) (g .c) (g .k) (g .base) r (now (g .m)) (s .last .0) (now (g .t)) (c .before .before .before .before .before .before .before .before .before .before .first .last .0) (s .last .1 .1 .1 .1 .1 .1 .0) (s .last .1 .1 .1 .1 .1 .1 .1 .0) (s .last .1 .1 .1 .1 .1 .1 .1 .1 .0) (p .0) (s .kept .0) (p .3) (p .4) S (c .before .before .before .before .before .before .before .before .before .before .before .before .before .before .before .before .before .before .before .if1 .left) (c .before .before .before .before .before .before .before .before .before .before .first .ensures) (c .before .before .before .before .apply .last .1 .1 .1 .0) (a .rest),
+      window-rest (g .w) (g .n) (g .c) (g .k) (g .base) r (now (g .m)) (s .last .0) (now (g .t)) (s .last .1 .1 .1 .1 .1 .1 .0) (s .last .1 .1 .1 .1 .1 .1 .1 .0) (s .last .1 .1 .1 .1 .1 .1 .1 .1 .0) (p .0) (s .kept .0) (p .1) (p .3) (p .4) S (c .before .before .before .before .apply .last .1 .1 .0) (a .rest),
       a .count,
     )
 
@@ -117,7 +112,7 @@ window-spec =
     same-length-4
     returns
     numbers-requires
-    first-requires
+    sub-apply
     apply-requires
     same-length-5
     same-length-6

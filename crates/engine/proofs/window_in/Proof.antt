@@ -1,15 +1,15 @@
--- As over two slices; the table's first row lies behind the matrix, whose rows it leaves as they are.
+-- As over two slices.
 use denote.Ref.{now}
-use mathlib.Core.Path.{_≡_, refl, ap, _∙_, subst}
+use mathlib.Core.Path.{_≡_, refl, _∙_, subst}
 use mathlib.Core.List.{List}
 use Prim.Native.Nat.{ℕ, _^_}
 use lib.ListN.{length}
-use Rattle.gf2.specs.Rows.{part}
 use Rattle.words.specs.Words.{rowsOf}
 use Rattle.words.proofs.Rows.{length-rows}
-use Rattle.engine.specs.Stage.{Search, cleared}
-use Rattle.engine.proofs.Windows.{marks, no-pivots, cleared-all, windowed, no-additions, room-rows, room-drop, room-starts, room-same, room-applies, room-rest}
+use Rattle.engine.specs.Stage.{Search}
+use Rattle.engine.proofs.Windows.{marks, no-pivots, cleared-all, windowed, no-additions, room-rows, room-drop, room-applies, room-rest}
 use native.Mathlib.Omega.{arith}
+use borrow.Author.Needs.{needs}
 use Rattle.engine.proofs.window_in.Statement.{statement}
 use Rattle.engine.proofs.window_in.Tie as tie
 
@@ -61,48 +61,42 @@ numbers-requires c κs =
       S .has,
     )
 
-first-requires : tie.Need-first-requires
-first-requires c κs =
-    let g = c .before .before .before .before .before .before .before .before .before .before .before .before .before .before .before .before .before .before .before .before .before .before .before .before .before .args in
-    let p = c .before .before .before .before .before .before .before .before .before .before .before .before .before .before .before .before .before .before .before .before .before .before .before .before .before .pre in
-    let s = c .before .before .before .before .before .before .before .before .before .before .before .before .before .before .before .before .search in
-    room-starts (g .w) (g .n) (g .c) (g .k) (g .base) (s .result) (now (g .m)) (s .last .0) (s .last .1 .1 .1 .1 .1 .1 .0) (s .last .1 .1 .1 .1 .1 .1 .1 .0) (s .last .1 .1 .1 .1 .1 .1 .1 .1 .0) (p .0) (s .kept .0) (p .3) (s .ensures .0) (c .before .before .before .before .before .before .before .if1 .left)
+sub-apply : tie.Need-sub-apply
+sub-apply c = search needs
 
 apply-requires : tie.Need-apply-requires
 apply-requires c κs =
-    let g = c .before .before .before .before .before .before .before .before .before .before .before .before .before .before .before .before .before .before .before .before .before .before .before .before .before .before .before .before .before .before .args in
-    let p = c .before .before .before .before .before .before .before .before .before .before .before .before .before .before .before .before .before .before .before .before .before .before .before .before .before .before .before .before .before .before .pre in
-    let s = c .before .before .before .before .before .before .before .before .before .before .before .before .before .before .before .before .before .before .before .before .before .search in
-    let f = c .before .before .before .before .first in
-    let u = c .before .before .before .before .before .before .before .before .numbers in
-    (room-applies (g .w) (g .n) (g .c) (g .k) (g .base) (s .result) (now (g .m)) (s .last .0) (s .last .1 .1 .1 .1 .1 .1 .0) (s .last .1 .1 .1 .1 .1 .1 .1 .0) (s .last .1 .1 .1 .1 .1 .1 .1 .1 .0) (p .0) (s .kept .0) (p .3) (s .ensures .0) (c .before .before .before .before .before .before .before .before .before .before .before .before .if1 .left) (f .last .0) (f .ensures) (u .last .1 .1 .1 .1 .1 .1 .1 .0) (f .kept .0) (u .kept .1 .1 .1 .1 .1 .1 .1 .0) (u .ensures .small), p .7)
+    let g = c .before .before .before .before .before .before .before .before .before .before .before .before .before .before .before .before .before .before .before .before .before .before .before .before .before .before .args in
+    let p = c .before .before .before .before .before .before .before .before .before .before .before .before .before .before .before .before .before .before .before .before .before .before .before .before .before .before .pre in
+    let s = c .before .before .before .before .before .before .before .before .before .before .before .before .before .before .before .before .before .search in
+    let u = c .before .before .before .before .numbers in
+    (room-applies (g .w) (g .n) (g .c) (g .k) (g .base) (s .result) (now (g .m)) (s .last .0) (s .last .1 .1 .1 .1 .1 .1 .0) (s .last .1 .1 .1 .1 .1 .1 .1 .0) (s .last .1 .1 .1 .1 .1 .1 .1 .1 .0) (p .0) (s .kept .0) (p .1) (p .3) (s .ensures .0) (u .last .1 .1 .1 .1 .1 .1 .1 .0) (u .kept .1 .1 .1 .1 .1 .1 .1 .0) (u .ensures .small), p .7)
 
 same-length-5 : tie.Need-same-length-5
-same-length-5 c = c .before .before .apply .kept .1 .0 ∙ c .before .before .before .before .before .before .before .first .kept .0 ∙ c .before .before .before .before .before .before .before .before .before .before .before .before .before .before .before .before .before .before .before .before .before .before .before .before .search .kept .0
+same-length-5 c = c .before .before .apply .kept .1 .0 ∙ c .before .before .before .before .before .before .before .before .before .before .before .before .before .before .before .before .before .before .before .before .search .kept .0
 
 same-length-6 : tie.Need-same-length-6
-same-length-6 c = c .before .before .before .before .before .before .before .before .before .before .before .numbers .kept .1 .1 .1 .1 .1 .1 .1 .0 ∙ c .before .before .before .before .before .before .before .before .before .before .before .before .before .before .before .before .before .before .before .before .before .before .before .before .search .kept .1 .1 .1 .1 .1 .1 .0
+same-length-6 c = c .before .before .before .before .before .before .before .numbers .kept .1 .1 .1 .1 .1 .1 .1 .0 ∙ c .before .before .before .before .before .before .before .before .before .before .before .before .before .before .before .before .before .before .before .before .search .kept .1 .1 .1 .1 .1 .1 .0
 
 same-length-7 : tie.Need-same-length-7
-same-length-7 c = c .before .before .before .before .before .before .before .before .before .before .before .before .before .before .before .before .before .before .before .before .before .before .before .before .search .kept .1 .1 .1 .1 .1 .1 .1 .0
+same-length-7 c = c .before .before .before .before .before .before .before .before .before .before .before .before .before .before .before .before .before .before .before .before .search .kept .1 .1 .1 .1 .1 .1 .1 .0
 
 same-length-8 : tie.Need-same-length-8
-same-length-8 c = c .before .before .before .before .before .before .before .before .before .before .before .before .before .before .before .before .before .before .before .before .before .before .before .before .search .kept .1 .1 .1 .1 .1 .1 .1 .1 .0
+same-length-8 c = c .before .before .before .before .before .before .before .before .before .before .before .before .before .before .before .before .before .before .before .before .search .kept .1 .1 .1 .1 .1 .1 .1 .1 .0
 
 returns-2 : tie.Need-returns-2
 returns-2 c =
-    let g = c .before .before .before .before .before .before .before .before .before .before .before .before .before .before .before .before .before .before .before .before .before .before .before .before .before .before .before .before .before .before .before .before .before .args in
-    let p = c .before .before .before .before .before .before .before .before .before .before .before .before .before .before .before .before .before .before .before .before .before .before .before .before .before .before .before .before .before .before .before .before .before .pre in
-    let s = c .before .before .before .before .before .before .before .before .before .before .before .before .before .before .before .before .before .before .before .before .before .before .before .before .search in
+    let g = c .before .before .before .before .before .before .before .before .before .before .before .before .before .before .before .before .before .before .before .before .before .before .before .before .before .before .before .before .before .args in
+    let p = c .before .before .before .before .before .before .before .before .before .before .before .before .before .before .before .before .before .before .before .before .before .before .before .before .before .before .before .before .before .pre in
+    let s = c .before .before .before .before .before .before .before .before .before .before .before .before .before .before .before .before .before .before .before .before .search in
     let r = s .result in
-    let M : List ℕ = rowsOf (g .w) (g .n) (c .before .before .before .before .before .before .before .before .before .before .before .before .before .before .before .before .before .before .before .before .before .before .before .before .search .last .0) in
-    let S : Search (g .n) (g .c) (g .k) (g .k) (g .base) r M (c .before .before .before .before .before .before .before .before .before .before .before .before .before .before .before .before .before .before .before .before .before .before .before .before .search .last .1 .1 .1 .1 .1 .1 .0) (c .before .before .before .before .before .before .before .before .before .before .before .before .before .before .before .before .before .before .before .before .before .before .before .before .search .last .1 .1 .1 .1 .1 .1 .1 .0) (c .before .before .before .before .before .before .before .before .before .before .before .before .before .before .before .before .before .before .before .before .before .before .before .before .search .last .1 .1 .1 .1 .1 .1 .1 .1 .0) = s .ensures .0 in
-    let a = c .before .before .apply .ensures in
-    let f = c .before .before .before .before .before .before .before .first in (
-      windowed (g .n) (g .c) (g .k) (g .base) r M (c .before .before .before .before .before .before .before .before .before .before .before .before .before .before .before .before .before .before .before .before .before .before .before .before .search .last .1 .1 .1 .1 .1 .1 .0) (c .before .before .before .before .before .before .before .before .before .before .before .before .before .before .before .before .before .before .before .before .before .before .before .before .search .last .1 .1 .1 .1 .1 .1 .1 .0) (c .before .before .before .before .before .before .before .before .before .before .before .before .before .before .before .before .before .before .before .before .before .before .before .before .search .last .1 .1 .1 .1 .1 .1 .1 .1 .0) S (rowsOf (g .w) (g .n) (now (g .m))) (rowsOf (g .w) (g .n) (c .before .before .apply .last .1 .0)) (now (g .cols)) (s .ensures .1)
-          (a .rows ∙ ap (λ (X : List ℕ). cleared (c .before .before .before .before .before .before .before .before .before .before .before .numbers .last .1 .1 .1 .1 .1 .1 .1 .0) (part (g .base) r X) X) (room-same (g .w) (g .n) (g .c) (g .k) (g .base) (s .result) (now (g .m)) (s .last .0) (s .last .1 .1 .1 .1 .1 .1 .0) (s .last .1 .1 .1 .1 .1 .1 .1 .0) (s .last .1 .1 .1 .1 .1 .1 .1 .1 .0) (p .0) (s .kept .0) (p .3) (s .ensures .0) (c .before .before .before .before .before .before .before .before .before .before .before .before .before .before .before .if1 .left) (f .last .0) (f .ensures))
-          ∙ cleared-all (g .n) (g .c) (g .k) (g .base) r M (c .before .before .before .before .before .before .before .before .before .before .before .before .before .before .before .before .before .before .before .before .before .before .before .before .search .last .1 .1 .1 .1 .1 .1 .0) (c .before .before .before .before .before .before .before .before .before .before .before .before .before .before .before .before .before .before .before .before .before .before .before .before .search .last .1 .1 .1 .1 .1 .1 .1 .0) (c .before .before .before .before .before .before .before .before .before .before .before .before .before .before .before .before .before .before .before .before .before .before .before .before .search .last .1 .1 .1 .1 .1 .1 .1 .1 .0) S (c .before .before .before .before .before .before .before .before .before .before .before .numbers .last .1 .1 .1 .1 .1 .1 .1 .0) (length-rows (g .w) (g .n) (c .before .before .before .before .before .before .before .before .before .before .before .before .before .before .before .before .before .before .before .before .before .before .before .before .search .last .0)) (c .before .before .before .before .before .before .before .before .before .before .before .numbers .ensures)) (s .ensures .2),
-      room-rest (g .w) (g .n) (g .c) (g .k) (g .base) (s .result) (now (g .m)) (s .last .0) (s .last .1 .1 .1 .1 .1 .1 .0) (s .last .1 .1 .1 .1 .1 .1 .1 .0) (s .last .1 .1 .1 .1 .1 .1 .1 .1 .0) (p .0) (s .kept .0) (p .3) (s .ensures .0) (c .before .before .before .before .before .before .before .before .before .before .before .before .before .before .before .if1 .left) (f .last .0) (f .ensures) (c .before .before .apply .last .1 .0) (a .rest) (s .ensures .3),
+    let M : List ℕ = rowsOf (g .w) (g .n) (c .before .before .before .before .before .before .before .before .before .before .before .before .before .before .before .before .before .before .before .before .search .last .0) in
+    let S : Search (g .n) (g .c) (g .k) (g .k) (g .base) r M (c .before .before .before .before .before .before .before .before .before .before .before .before .before .before .before .before .before .before .before .before .search .last .1 .1 .1 .1 .1 .1 .0) (c .before .before .before .before .before .before .before .before .before .before .before .before .before .before .before .before .before .before .before .before .search .last .1 .1 .1 .1 .1 .1 .1 .0) (c .before .before .before .before .before .before .before .before .before .before .before .before .before .before .before .before .before .before .before .before .search .last .1 .1 .1 .1 .1 .1 .1 .1 .0) = s .ensures .0 in
+    let a = c .before .before .apply .ensures in (
+      windowed (g .n) (g .c) (g .k) (g .base) r M (c .before .before .before .before .before .before .before .before .before .before .before .before .before .before .before .before .before .before .before .before .search .last .1 .1 .1 .1 .1 .1 .0) (c .before .before .before .before .before .before .before .before .before .before .before .before .before .before .before .before .before .before .before .before .search .last .1 .1 .1 .1 .1 .1 .1 .0) (c .before .before .before .before .before .before .before .before .before .before .before .before .before .before .before .before .before .before .before .before .search .last .1 .1 .1 .1 .1 .1 .1 .1 .0) S (rowsOf (g .w) (g .n) (now (g .m))) (rowsOf (g .w) (g .n) (c .before .before .apply .last .1 .0)) (now (g .cols)) (s .ensures .1)
+          (a .rows
+          ∙ cleared-all (g .n) (g .c) (g .k) (g .base) r M (c .before .before .before .before .before .before .before .before .before .before .before .before .before .before .before .before .before .before .before .before .search .last .1 .1 .1 .1 .1 .1 .0) (c .before .before .before .before .before .before .before .before .before .before .before .before .before .before .before .before .before .before .before .before .search .last .1 .1 .1 .1 .1 .1 .1 .0) (c .before .before .before .before .before .before .before .before .before .before .before .before .before .before .before .before .before .before .before .before .search .last .1 .1 .1 .1 .1 .1 .1 .1 .0) S (c .before .before .before .before .before .before .before .numbers .last .1 .1 .1 .1 .1 .1 .1 .0) (length-rows (g .w) (g .n) (c .before .before .before .before .before .before .before .before .before .before .before .before .before .before .before .before .before .before .before .before .search .last .0)) (c .before .before .before .before .before .before .before .numbers .ensures)) (s .ensures .2),
+      room-rest (g .w) (g .n) (g .c) (g .k) (g .base) r (now (g .m)) (s .last .0) (s .last .1 .1 .1 .1 .1 .1 .0) (s .last .1 .1 .1 .1 .1 .1 .1 .0) (s .last .1 .1 .1 .1 .1 .1 .1 .1 .0) (p .0) (s .kept .0) (p .1) (p .3) S (c .before .before .apply .last .1 .0) (a .rest) (s .ensures .3),
       a .count,
     )
 
@@ -117,7 +111,7 @@ window-in-spec =
     same-length-4
     returns
     numbers-requires
-    first-requires
+    sub-apply
     apply-requires
     same-length-5
     same-length-6

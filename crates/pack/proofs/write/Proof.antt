@@ -3,7 +3,7 @@ use denote.Ref.{now}
 use mathlib.Core.Path.{sym, _∙_}
 use lib.ListN.{length}
 use Rattle.bundle.specs.Bundle.{bothKinds}
-use Rattle.pack.proofs.Passing.{writable, agreed, write-short, says-refused, says-done}
+use Rattle.pack.proofs.Passing.{writable, checked, write-short, says-refused, says-done}
 use borrow.Author.Needs.{needs}
 use native.Mathlib.Omega.{arith}
 use Rattle.pack.proofs.write.Statement.{statement}
@@ -23,7 +23,7 @@ bundle-requires c κs =
     let g = c .before .before .before .before .before .before .before .before .before .args in
     let z = sym (c .before .before .before .all .ensures) ∙ c .before .enum-told .given .1 in
     let v = writable bothKinds (now (g .kinds)) (now (g .rows)) (now (g .columns)) (now (g .words)) (length (now (g .out))) z in
-    (agreed bothKinds (now (g .kinds)) (now (g .rows)) (now (g .columns)) (now (g .words)) (length (now (g .out))) v, v .fits)
+    (checked bothKinds (now (g .kinds)) (now (g .rows)) (now (g .columns)) (now (g .words)) (length (now (g .out))) v, v .fits)
 
 mul-t15 : tie.Need-mul-t15
 mul-t15 c = omega (arith, write-short _ _ _ _ _ _ _ (c .before .before .before .before .before .before .all .ensures) (c .before .before .before .before .enum-told .given .1))

@@ -1,11 +1,9 @@
 -- Each row that was passed has the one of the identity: unit-turn.
-use mathlib.Core.Path.{sym, _∙_}
+use mathlib.Core.Path.{_≡_, sym, _∙_}
 use borrow.Author.Tests.{not-true, not-false}
-use Rattle.words.proofs.Rows.{length-rows}
-use Rattle.readoff.proofs.Place.{row-end}
+use Rattle.words.proofs.Rows.{row-end, length-rows}
 use Rattle.readoff.proofs.Sides.{units-begin, unit-fails, unit-turn}
 use denote.Ref.{now}
-use mathlib.Core.Path.{_≡_}
 use Prim.Native.Nat.{ℕ, _-_, _%_, _^_, _≤_, _<_}
 use Rattle.gf2.specs.Rows.{row}
 use Rattle.words.specs.Words.{rowsOf}

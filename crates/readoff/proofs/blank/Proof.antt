@@ -3,8 +3,8 @@ use denote.Ref.{now}
 use mathlib.Core.Path.{_≡_, refl}
 use Prim.Native.Nat.{_-_, _≤_}
 use lib.ListN.{length}
+use Rattle.words.proofs.Rows.{row-end}
 use Rattle.readoff.proofs.Saying.{Blank, blank-block, blank-shown}
-use Rattle.readoff.proofs.Place.{row-end}
 use borrow.Author.Needs.{needs}
 use native.Mathlib.Omega.{arith}
 use Rattle.readoff.proofs.blank.Statement.{statement}

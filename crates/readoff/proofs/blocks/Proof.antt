@@ -4,9 +4,8 @@ use mathlib.Core.Path.{_≡_, refl, subst}
 use Prim.Native.Nat.{ℕ, _-_, _*_, _/_, _^_, _≤_, _<_}
 use lib.ListN.{length, drop}
 use Rattle.words.specs.Words.{rowsOf}
-use Rattle.words.proofs.Rows.{getD-rows}
+use Rattle.words.proofs.Rows.{row-end, getD-rows}
 use Rattle.readoff.specs.ReadOff.{Shown}
-use Rattle.readoff.proofs.Place.{row-end}
 use Rattle.readoff.proofs.Saying.{rows-none, rows-more, marks-small}
 use borrow.Author.Needs.{needs}
 use Rattle.readoff.proofs.blocks.Statement.{statement}

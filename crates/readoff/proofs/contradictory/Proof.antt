@@ -1,7 +1,8 @@
 -- The shapes are tested, and the search tells whether a row has its pivot past column n.
 use borrow.Author.Tests.{not-true, not-false}
 use Rattle.readoff.specs.ReadOff.{Holds}
-use Rattle.readoff.proofs.Fitting.{yes-so, not-so, rows-held, words-few, columns-held, refuted-found, refuted-missing}
+use Rattle.refusals.proofs.Passed.{yes-so, not-so}
+use Rattle.readoff.proofs.Fitting.{rows-held, words-few, columns-held, refuted-found, refuted-missing}
 use denote.Ref.{now}
 use borrow.Author.Needs.{needs}
 use Rattle.readoff.proofs.contradictory.Statement.{statement}

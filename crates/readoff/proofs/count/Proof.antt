@@ -1,5 +1,5 @@
-use Rattle.readoff.proofs.Saying.{marked-turn, marked-end}
 -- The sum so far, and the marks to come, are all marks.
+use Rattle.readoff.proofs.Saying.{marked-turn, marked-end}
 use denote.Ref.{now}
 use mathlib.Core.Path.{_≡_}
 use Prim.Native.Nat.{_+_, _-_, _≤_}
@@ -26,7 +26,7 @@ cast-sum : tie.Need-cast-sum Inv-loop μ-loop
 cast-sum c = omega (arith, c .before .before .before .pre (c .before .before .loop .j))
 
 add-sum : tie.Need-add-sum Inv-loop μ-loop
-add-sum c = let g = c .before .before .before .args in omega (arith, c .before .before .before .pre (c .before .before .loop .j), c .before .before .before .good)
+add-sum c = omega (arith, c .before .before .before .pre (c .before .before .loop .j), c .before .before .before .good)
 
 add-j : tie.Need-add-j Inv-loop μ-loop
 add-j c = search needs

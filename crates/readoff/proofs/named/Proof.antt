@@ -2,9 +2,10 @@
 use mathlib.Core.Path.{refl}
 use Prim.Native.Nat.{ℕ, _≤_}
 use borrow.Author.Tests.{not-true, not-false}
+use Rattle.words.proofs.Rows.{row-end}
 use Rattle.readoff.specs.ReadOff.{Holds}
-use Rattle.readoff.proofs.Fitting.{yes-so, not-so, rows-held, words-few, columns-held, names-missing, names-below, names-found, names-are}
-use Rattle.readoff.proofs.Place.{row-end}
+use Rattle.refusals.proofs.Passed.{yes-so, not-so}
+use Rattle.readoff.proofs.Fitting.{rows-held, words-few, columns-held, names-missing, names-below, names-found, names-are}
 use denote.Ref.{now}
 use native.Mathlib.Omega.{arith}
 use borrow.Author.Needs.{needs}
@@ -55,7 +56,7 @@ take-from-requires c κs =
     let h : Holds (g .rows) (g .columns) (now (g .m)) = yes-so (c .before .before .before .before .before .before .before .holds .result) (c .before .before .before .before .before .before .before .holds .ensures) (not-false (c .before .before .before .before .before .before .before .holds .result) (c .before .before .before .before .before .before .if2 .left)) in
     let w : ℕ = c .before .before .before .words2 .result in
     let l : g .e ≤ g .columns = search needs in
-    (search needs, row-end (now (g .m)) w (g .rows) (c .before .before .pivot-row .result) (rows-held (g .rows) (g .columns) w (now (g .m)) (c .before .before .before .words2 .ensures) h) (names-below (g .rows) (g .columns) (g .a) (g .e) w (now (g .m)) (c .before .before .before .words2 .ensures) (c .before .before .pivot-row .result) (c .before .before .pivot-row .ensures) (c .before .if4 .left)), omega (arith, c .before .before .before .before .before .words .ensures, h .wide), omega (arith, h .wide, l))
+    (search needs, omega (arith, c .before .before .before .before .before .words .ensures, h .wide), omega (arith, h .wide, l))
 
 same-length : tie.Need-same-length
 same-length c = search needs

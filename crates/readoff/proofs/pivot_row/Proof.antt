@@ -1,10 +1,9 @@
 -- Each row that was passed has its pivot elsewhere: row-inside.
-use mathlib.Core.Path.{sym, _∙_}
+use mathlib.Core.Path.{_≡_, sym, _∙_}
 use Rattle.words.proofs.Value.{fits-fit}
-use Rattle.words.proofs.Rows.{length-rows}
-use Rattle.readoff.proofs.Place.{row-end, row-inside, passed}
+use Rattle.words.proofs.Rows.{row-end, length-rows}
+use Rattle.readoff.proofs.Place.{row-inside, passed}
 use denote.Ref.{now}
-use mathlib.Core.Path.{_≡_}
 use mathlib.Core.Bool.{false}
 use Prim.Native.Nat.{ℕ, _-_, _≤_, _<_}
 use Rattle.gf2.specs.Rows.{row}

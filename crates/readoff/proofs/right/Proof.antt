@@ -6,8 +6,7 @@ use Prim.Native.Nat.{ℕ, _-_, _*_, _/_, _^_, _≤_, _<_}
 use lib.ListN.{length}
 use Rattle.gf2.specs.Rows.{row, part}
 use Rattle.words.specs.Words.{value, rowsOf}
-use Rattle.words.proofs.Rows.{getD-rows, length-rows}
-use Rattle.readoff.proofs.Place.{row-end}
+use Rattle.words.proofs.Rows.{row-end, getD-rows, length-rows}
 use Rattle.readoff.proofs.Sides.{right-turn, right-done}
 use borrow.Author.Needs.{needs}
 use native.Mathlib.Omega.{arith}
@@ -32,7 +31,7 @@ mul-take-from-2 c = let g = c .before .before .before .before .before .args in o
 take-from-requires : tie.Need-take-from-requires Inv-loop μ-loop
 take-from-requires c κs =
     let g = c .before .before .before .before .before .args in
-    (omega (arith, row-end (now (g .result)) (g .v) (g .n) (c .before .before .loop .i) (search needs) (search needs), c .before .before .loop .inv .2), row-end (now (g .m)) (g .w) (g .n) (c .before .before .loop .i) (search needs) (search needs), search needs, search needs)
+    (omega (arith, row-end (now (g .result)) (g .v) (g .n) (c .before .before .loop .i) (search needs) (search needs), c .before .before .loop .inv .2), search needs, search needs)
 
 add-i : tie.Need-add-i Inv-loop μ-loop
 add-i c = search needs

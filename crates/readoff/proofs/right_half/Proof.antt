@@ -1,12 +1,14 @@
 -- The shapes are tested; then the left half, and the right half is copied.
-use mathlib.Core.Path.{refl, sym, ap, _∙_}
+use mathlib.Core.Path.{refl, sym, ap, _∙_, subst}
 use Prim.Native.Nat.{ℕ, _+_}
 use borrow.Author.Tests.{not-true, not-false}
+use lib.Dec.{T}
 use lib.ListN.{length}
 use Rattle.gf2.specs.Inverse.{rightOf}
 use Rattle.words.specs.Words.{rowsOf}
 use Rattle.readoff.specs.ReadOff.{Holds}
-use Rattle.readoff.proofs.Fitting.{yes-so, not-so, buffer-right, buffer-wrong, buffer-holds, rows-held, words-few, columns-held, clean-right}
+use Rattle.refusals.proofs.Passed.{yes-so, not-so}
+use Rattle.readoff.proofs.Fitting.{buffer-right, buffer-wrong, buffer-holds, rows-held, words-few, columns-held, clean-right}
 use denote.Ref.{now}
 use native.Mathlib.Omega.{arith}
 use borrow.Author.Needs.{needs}
@@ -54,7 +56,7 @@ returns-4 c =
     let g = c .before .before .before .before .before .before .before .before .before .before .before .args in
     let h : Holds (g .n) (g .n + g .n) (now (g .m)) = yes-so (c .before .before .before .before .holds .result) (c .before .before .before .before .holds .ensures) (not-false (c .before .before .before .before .holds .result) (c .before .before .before .if3 .left)) in
     let f = buffer-right (g .n) (g .n) (length (now (g .result))) (c .before .before .before .before .before .before .before .wrong-buffer .result) (c .before .before .before .before .before .before .before .wrong-buffer .ensures) (sym (c .before .before .before .before .before .before .number .ensures) ∙ c .before .before .before .before .before .if2 .left) in
-    ((record { matrix = h; fitting = f }, rw (← (c .before .before .words .ensures)) (not-so (c .before .begins-with-identity .result) (c .before .begins-with-identity .ensures) (not-true (c .before .begins-with-identity .result) (c .if4 .taken)))), refl)
+    ((record { matrix = h; fitting = f }, rw (← (c .before .before .words .ensures)) (subst T (sym (c .before .begins-with-identity .ensures) ∙ not-true (c .before .begins-with-identity .result) (c .if4 .taken)))), refl)
 
 words-requires-2 : tie.Need-words-requires-2
 words-requires-2 c κs = search needs
@@ -73,9 +75,8 @@ returns-5 : tie.Need-returns-5
 returns-5 c =
     let g = c .before .before .before .before .before .before .before .before .before .before .before .before .before .before .before .before .args in
     let h : Holds (g .n) (g .n + g .n) (now (g .m)) = yes-so (c .before .before .before .before .before .before .before .before .before .holds .result) (c .before .before .before .before .before .before .before .before .before .holds .ensures) (not-false (c .before .before .before .before .before .before .before .before .before .holds .result) (c .before .before .before .before .before .before .before .before .if3 .left)) in
-    let w : ℕ = c .before .before .before .before .before .before .before .words .result in
     let f = buffer-right (g .n) (g .n) (length (now (g .result))) (c .before .before .before .before .before .before .before .before .before .before .before .before .wrong-buffer .result) (c .before .before .before .before .before .before .before .before .before .before .before .before .wrong-buffer .ensures) (sym (c .before .before .before .before .before .before .before .before .before .before .before .number .ensures) ∙ c .before .before .before .before .before .before .before .before .before .before .if2 .left) in
-    ((record { matrix = h; fitting = f }, rw (← (c .before .before .before .before .before .before .before .words .ensures)) (yes-so (c .before .before .before .before .before .before .begins-with-identity .result) (c .before .before .before .before .before .before .begins-with-identity .ensures) (not-false (c .before .before .before .before .before .before .begins-with-identity .result) (c .before .before .before .before .before .if4 .left)))), ap (λ (x : ℕ). rowsOf x (g .n) (c .before .before .right .last .1 .1 .1 .1 .0)) (sym (c .before .before .before .before .words2 .ensures)) ∙ c .before .before .right .ensures ∙ ap (λ (x : ℕ). rightOf (g .n) (rowsOf x (g .n) (now (g .m)))) (c .before .before .before .before .before .before .before .words .ensures))
+    ((record { matrix = h; fitting = f }, rw (← (c .before .before .before .before .before .before .before .words .ensures)) (subst T (sym (not-false (c .before .before .before .before .before .before .begins-with-identity .result) (c .before .before .before .before .before .if4 .left)) ∙ c .before .before .before .before .before .before .begins-with-identity .ensures) tt)), ap (λ (x : ℕ). rowsOf x (g .n) (c .before .before .right .last .1 .1 .1 .1 .0)) (sym (c .before .before .before .before .words2 .ensures)) ∙ c .before .before .right .ensures ∙ ap (λ (x : ℕ). rightOf (g .n) (rowsOf x (g .n) (now (g .m)))) (c .before .before .before .before .before .before .before .words .ensures))
 
 pub right-half-spec : {M : Type 1} → statement M
 right-half-spec =

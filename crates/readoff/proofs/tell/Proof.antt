@@ -5,7 +5,8 @@ use lib.ListN.{set}
 use Rattle.gf2.specs.Rows.{part}
 use Rattle.words.specs.Words.{value}
 use Rattle.words.proofs.Value.{fits-fit}
-use Rattle.readoff.proofs.Place.{row-end, part-narrow}
+use Rattle.words.proofs.Rows.{row-end}
+use Rattle.readoff.proofs.Place.{part-narrow}
 use Rattle.readoff.proofs.Telling.{tell-nothing, tell-unknown, tell-known}
 use denote.Ref.{now}
 use native.Mathlib.Omega.{arith}
@@ -61,7 +62,7 @@ mul-take-from c =
 take-from-requires : tie.Need-take-from-requires
 take-from-requires c κs =
     let g = c .before .before .before .before .before .before .before .before .args in
-    (omega (arith, row-end (now (g .image)) (g .v) (g .n) (c .before .before .before .before .next-one .result) (search needs) (search needs)), search needs, search needs, search needs)
+    (omega (arith, row-end (now (g .image)) (g .v) (g .n) (c .before .before .before .before .next-one .result) (search needs) (search needs)), search needs, search needs)
 
 slice-write-marks : tie.Need-slice-write-marks
 slice-write-marks c = search needs

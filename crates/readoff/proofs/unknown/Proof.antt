@@ -1,5 +1,5 @@
-use Rattle.readoff.proofs.Saying.{blank-turn}
 -- After l turns the first l words of the block are those of an unknown one.
+use Rattle.readoff.proofs.Saying.{blank-turn}
 use denote.Ref.{now}
 use mathlib.Core.Path.{_≡_, refl, ap, _∙_}
 use Prim.Native.Nat.{ℕ, _-_, _*_, _≤_}

@@ -1,7 +1,9 @@
--- What is written lies within the buffer.
+-- The buffers are as long as the report asks for, and what is written is the report.
 use mathlib.Core.Path.{sym}
+use native.Mathlib.Nat.{le-of-eq}
+use lib.Dec.{lit≤}
 use lib.Seq.{length-take-le}
-use Rattle.text.proofs.Putting.{put-within}
+use Rattle.reduce.proofs.Short.{report-ends}
 use borrow.Author.Needs.{needs}
 use Rattle.reduce.proofs.main.Statement.{statement}
 use Rattle.reduce.proofs.main.Tie as tie
@@ -9,8 +11,11 @@ use Rattle.reduce.proofs.main.Tie as tie
 large-buffer-requires : tie.Need-large-buffer-requires
 large-buffer-requires c κs = search needs
 
-input-requires : tie.Need-input-requires
-input-requires c κs = search needs
+slice-aggregate-read-full : tie.Need-slice-aggregate-read-full
+slice-aggregate-read-full c = search needs
+
+read-full-requires : tie.Need-read-full-requires
+read-full-requires c κs = search needs
 
 array-share-prefix-input : tie.Need-array-share-prefix-input
 array-share-prefix-input c = search needs
@@ -28,13 +33,15 @@ slice-aggregate-whole-4 : tie.Need-slice-aggregate-whole-4
 slice-aggregate-whole-4 c = search needs
 
 whole-requires : tie.Need-whole-requires
-whole-requires c κs = search needs
+whole-requires c κs = (lit≤ tt, lit≤ tt, le-of-eq (slice-aggregate-whole-4 c))
 
 array-share-prefix-out : tie.Need-array-share-prefix-out
-array-share-prefix-out c = put-within (c .before .before .before .whole .ensures)
+array-share-prefix-out c = let W = c .before .before .before .whole in report-ends _ _ (W .last .1 .1 .1 .0) (W .result) (W .ensures .0) (W .ensures .1)
 
 slice-aggregate-write-all : tie.Need-slice-aggregate-write-all
-slice-aggregate-write-all c = sym (length-take-le (c .before .before .before .before .whole .result) (c .before .before .before .before .whole .last .1 .1 .1 .0) (put-within (c .before .before .before .before .whole .ensures)))
+slice-aggregate-write-all c =
+    let W = c .before .before .before .before .whole in
+    sym (length-take-le (W .result) (W .last .1 .1 .1 .0) (report-ends _ _ (W .last .1 .1 .1 .0) (W .result) (W .ensures .0) (W .ensures .1)))
 
 write-all-requires : tie.Need-write-all-requires
 write-all-requires c κs = search needs
@@ -47,7 +54,8 @@ main-spec =
     tie.close
     (tie.spec
     large-buffer-requires
-    input-requires
+    slice-aggregate-read-full
+    read-full-requires
     array-share-prefix-input
     slice-aggregate-whole
     slice-aggregate-whole-2

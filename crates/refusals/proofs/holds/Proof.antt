@@ -22,12 +22,12 @@ div-if2 c = search needs
 returns-2 : tie.Need-returns-2
 returns-2 c = let g = c .before .before .before .before .args in holds-short (g .rows) (g .columns) (now (g .m)) (λ z. c .before .if1 .left (c .before .before .words .ensures ∙ z)) (rw (c .before .before .words .ensures) at (c .if2 .taken))
 
-no-padding-requires : tie.Need-no-padding-requires
-no-padding-requires c κs = (holds-fits (c .before .before .before .before .args .rows) (c .before .before .words .result) (length (now (c .before .before .before .before .args .m))) (c .before .if1 .left) (c .if2 .left), c .before .before .words .ensures, search needs)
+is-clean-requires : tie.Need-is-clean-requires
+is-clean-requires c κs = (holds-fits (c .before .before .before .before .args .rows) (c .before .before .words .result) (length (now (c .before .before .before .before .args .m))) (c .before .if1 .left) (c .if2 .left), c .before .before .words .ensures, search needs)
 
 returns-3 : tie.Need-returns-3
-returns-3 c = let g = c .before .before .before .before .before .args in c .no-padding .ensures ∙ ap (λ (w : ℕ). narrow (g .columns) (rowsOf w (g .rows) (now (g .m)))) (c .before .before .before .words .ensures) ∙ holds-narrow (g .rows) (g .columns) (now (g .m)) (rw (c .before .before .before .words .ensures) at (holds-fits (g .rows) (c .before .before .before .words .result) (length (now (g .m))) (c .before .before .if1 .left) (c .before .if2 .left)))
+returns-3 c = let g = c .before .before .before .before .before .args in c .is-clean .ensures ∙ ap (λ (w : ℕ). narrow (g .columns) (rowsOf w (g .rows) (now (g .m)))) (c .before .before .before .words .ensures) ∙ holds-narrow (g .rows) (g .columns) (now (g .m)) (rw (c .before .before .before .words .ensures) at (holds-fits (g .rows) (c .before .before .before .words .result) (length (now (g .m))) (c .before .before .if1 .left) (c .before .if2 .left)))
 
 pub holds-spec : {M : Type 1} → statement M
 holds-spec =
-    tie.close (tie.spec words-requires returns div-if2 returns-2 no-padding-requires returns-3)
+    tie.close (tie.spec words-requires returns div-if2 returns-2 is-clean-requires returns-3)

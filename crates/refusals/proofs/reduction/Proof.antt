@@ -22,11 +22,11 @@ and-then-requires-2 c κs = tt
 wrong-length-requires : tie.Need-wrong-length-requires
 wrong-length-requires c κs = tt
 
-and-then-requires-3 : tie.Need-and-then-requires-3
-and-then-requires-3 c κs = tt
-
 short-room-requires : tie.Need-short-room-requires
 short-room-requires c κs = tt
+
+and-then-requires-3 : tie.Need-and-then-requires-3
+and-then-requires-3 c κs = tt
 
 and-then-requires-4 : tie.Need-and-then-requires-4
 and-then-requires-4 c κs = tt
@@ -38,7 +38,13 @@ and-then-requires-5 : tie.Need-and-then-requires-5
 and-then-requires-5 c κs = tt
 
 returns : tie.Need-returns
-returns c = c .and-then5 .ensures ∙ ap₂ _andThen_ (c .before .before .and-then4 .ensures ∙ ap₂ _andThen_ (c .before .before .before .before .and-then3 .ensures ∙ ap₂ _andThen_ (c .before .before .before .before .before .before .and-then2 .ensures ∙ ap₂ _andThen_ (c .before .before .before .before .before .before .before .before .and-then .ensures ∙ ap₂ _andThen_ (c .before .before .before .before .before .before .before .before .before .before .too-many-rows .ensures) (c .before .before .before .before .before .before .before .before .before .bad-columns .ensures)) (c .before .before .before .before .before .before .before .bad-k .ensures)) (c .before .before .before .before .before .wrong-length .ensures)) (c .before .before .before .short-room .ensures)) (c .before .dirty-padding .ensures)
+returns c =
+    c .and-then5 .ensures
+    ∙ ap₂ _andThen_ (c .before .before .and-then4 .ensures
+    ∙ ap₂ _andThen_ (c .before .before .before .and-then3 .ensures
+    ∙ ap₂ _andThen_ (c .before .before .before .before .before .before .and-then2 .ensures
+    ∙ ap₂ _andThen_ (c .before .before .before .before .before .before .before .before .and-then .ensures
+    ∙ ap₂ _andThen_ (c .before .before .before .before .before .before .before .before .before .before .too-many-rows .ensures) (c .before .before .before .before .before .before .before .before .before .bad-columns .ensures)) (c .before .before .before .before .before .before .before .bad-k .ensures)) (c .before .before .before .before .before .wrong-length .ensures)) (c .before .before .before .before .short-room .ensures)) (c .before .dirty-padding .ensures)
 
 pub reduction-spec : {M : Type 1} → statement M
 reduction-spec =
@@ -50,8 +56,8 @@ reduction-spec =
     bad-k-requires
     and-then-requires-2
     wrong-length-requires
-    and-then-requires-3
     short-room-requires
+    and-then-requires-3
     and-then-requires-4
     dirty-padding-requires
     and-then-requires-5

@@ -16,11 +16,11 @@ and-then-requires c κs = tt
 wrong-length-requires : tie.Need-wrong-length-requires
 wrong-length-requires c κs = tt
 
-and-then-requires-2 : tie.Need-and-then-requires-2
-and-then-requires-2 c κs = tt
-
 not-below-requires : tie.Need-not-below-requires
 not-below-requires c κs = tt
+
+and-then-requires-2 : tie.Need-and-then-requires-2
+and-then-requires-2 c κs = tt
 
 and-then-requires-3 : tie.Need-and-then-requires-3
 and-then-requires-3 c κs = tt
@@ -28,9 +28,9 @@ and-then-requires-3 c κs = tt
 returns : tie.Need-returns
 returns c =
     c .and-then3 .ensures
-    ∙ ap₂ _andThen_ (c .before .before .and-then2 .ensures
+    ∙ ap₂ _andThen_ (c .before .and-then2 .ensures
     ∙ ap₂ _andThen_ (c .before .before .before .before .and-then .ensures
-    ∙ ap₂ _andThen_ (c .before .before .before .before .before .before .too-many-rows .ensures) (c .before .before .before .before .before .bad-columns .ensures)) (c .before .before .before .wrong-length .ensures)) (c .before .not-below .ensures)
+    ∙ ap₂ _andThen_ (c .before .before .before .before .before .before .too-many-rows .ensures) (c .before .before .before .before .before .bad-columns .ensures)) (c .before .before .before .wrong-length .ensures)) (c .before .before .not-below .ensures)
 
 pub view-spec : {M : Type 1} → statement M
 view-spec =
@@ -40,7 +40,7 @@ view-spec =
     bad-columns-requires
     and-then-requires
     wrong-length-requires
-    and-then-requires-2
     not-below-requires
+    and-then-requires-2
     and-then-requires-3
     returns)

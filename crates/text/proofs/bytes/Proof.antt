@@ -7,7 +7,6 @@ use lib.ListN.{length, take}
 use borrow.Author.Needs.{needs}
 use Rattle.text.specs.Put.{Put}
 use Rattle.text.proofs.Putting.{put-none, put-more, put-whole, length-over}
-use borrow.Author.Needs.{needs}
 use Rattle.text.proofs.bytes.Statement.{statement}
 use Rattle.text.proofs.bytes.Tie as tie
 

@@ -1,5 +1,5 @@
+-- Kind 2 is reversed, any other is as it stands.
 use mathlib.Core.Path.{_∙_}
-use Prim.Native.Nat.{_-_}
 use borrow.Author.Tests.{eq-eqb, ne-eqb}
 use Rattle.wire.specs.Kinds.{order}
 use borrow.Author.Needs.{needs}

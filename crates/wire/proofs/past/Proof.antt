@@ -5,8 +5,6 @@ use native.Mathlib.Omega.{arith}
 use borrow.Author.Needs.{needs}
 use Rattle.wire.proofs.past.Statement.{statement}
 use Rattle.wire.proofs.past.Tie as tie
-use Rattle.wire.proofs.past.Reads as reads
-use Rattle.wire.proofs.past.Lts as lts
 
 returns : tie.Need-returns
 returns c = let g = c .before .args in let h : g .x < 2 ^ 64 = omega arith in past-none (g .kind) (g .x) (g .s) h (c .if1 .taken)

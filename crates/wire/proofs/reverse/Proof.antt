@@ -1,5 +1,6 @@
+-- Six steps, each with the mask of its width.
 use mathlib.Core.Path.{refl}
-use Prim.Native.Nat.{_-_, _^_, _<_}
+use Prim.Native.Nat.{_^_, _<_}
 use Rattle.wire.specs.Swaps.{maskOf}
 use Rattle.wire.proofs.Reversal.{six}
 use borrow.Author.Needs.{needs}

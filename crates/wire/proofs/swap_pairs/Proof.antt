@@ -1,4 +1,4 @@
-use Prim.Native.Nat.{_-_}
+-- The two halves of each pair do not meet, so that their sum is the pair exchanged.
 use Rattle.wire.proofs.Reversal.{stage-is, stage-fits}
 use borrow.Author.Needs.{needs}
 use Rattle.wire.proofs.swap_pairs.Statement.{statement}

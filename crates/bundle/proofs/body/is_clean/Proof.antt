@@ -1,4 +1,4 @@
--- Only a row's last word can hold padding: the loop has seen that of each row passed. The measure is the rows left.
+-- A one past the last column stands in the last word of its row: the loop has looked at that word of each row passed. The measure is the rows left.
 use mathlib.Core.Path.{refl, sym, _∙_}
 use denote.Ref.{now}
 use Prim.Native.Nat.{ℕ, _-_, _^_, _<_, _≤_}

@@ -1,7 +1,7 @@
 -- What was read is the number in the bytes from byte at + i on, and each turn puts one byte below it. The measure is the bytes left.
 use denote.Ref.{now}
 use mathlib.Core.Path.{_≡_, ap, _∙_}
-use Prim.Native.Nat.{ℕ, _+_, _-_, _*_, _≤_}
+use Prim.Native.Nat.{ℕ, _+_, _*_, _≤_}
 use lib.ListN.{take, drop}
 use Rattle.wire.specs.Bytes.{le}
 use Rattle.wire.proofs.Bytes.{number-start, number-turn, number-small, number-done}
@@ -44,9 +44,8 @@ add-x : tie.Need-add-x Inv-loop μ-loop
 add-x c =
     let l = c .before .before .before in
     let g = l .before .before .args in
-    let f = l .before .shared-slice-known .given in
     let h = l .before .before .pre in
-    omega (arith, number-small (now (g .b)) (g .at) (g .k) f (h .0) (l .loop .i) (l .loop .x) (search needs) (search needs) (h .1) (l .loop .inv .0), c .wide .ensures, f (g .at + (l .loop .i - 1)))
+    omega (arith, number-small (now (g .b)) (g .at) (g .k) (l .before .shared-slice-known .given) (h .0) (l .loop .i) (l .loop .x) (search needs) (search needs) (h .1) (l .loop .inv .0), c .wide .ensures .1)
 
 loop-less : tie.Need-loop-less Inv-loop μ-loop
 loop-less c = search needs
@@ -55,7 +54,7 @@ loop-again : tie.Need-loop-again Inv-loop μ-loop
 loop-again c =
     let l = c .before .before .before in
     let g = l .before .before .args in (
-      ap (λ (y : ℕ). l .loop .x * 256 + y) (c .wide .ensures)
+      ap (λ (y : ℕ). l .loop .x * 256 + y) (c .wide .ensures .0)
           ∙ number-turn (now (g .b)) (g .at) (g .k) (l .before .shared-slice-known .given) (l .before .before .pre .0) (l .loop .i) (l .loop .x) (search needs) (search needs) (l .loop .inv .0),
       search needs,
     )

@@ -4,6 +4,7 @@ use Rattle.bundle.specs.Bundle.{kindRule, meaning}
 use Rattle.bundle.specs.Answers.{find}
 use Rattle.bundle.proofs.Meaning.{two-bytes-long, find-refused, find-past, find-entry, good-entry, told-missing, told-found}
 use Rattle.refusals.specs.declared.Refusal.the-variants.{NotBelow}
+use native.Mathlib.Omega.{arith}
 use borrow.Author.Needs.{needs}
 use Rattle.bundle.proofs.ruled.entry.Statement.{statement}
 use Rattle.bundle.proofs.ruled.entry.Tie as tie
@@ -27,7 +28,7 @@ tell-requires : tie.Need-tell-requires
 tell-requires c κs =
     let t = c .before .before .before .before in
     let g = t .before .before .args in
-    let G = good-entry (kindRule (g .two)) (now (g .bytes)) (t .check .result) (t .check .ensures) (c .before .before .enum-told .given .1) (c .before .count .result) (c .before .count .ensures) (g .i) (c .if1 .taken) in
+    let G = good-entry (kindRule (g .two)) (now (g .bytes)) (t .check .result) (t .check .ensures) (c .before .before .enum-told .given .1) (c .before .count .result) (c .before .count .ensures) (g .i) (omega (arith, c .if1 .taken)) in
     (G .head, G .short)
 
 returns : tie.Need-returns
@@ -35,7 +36,7 @@ returns c =
     let t = c .before .before .before .before .before in
     let g = t .before .before .args in
     told-found (find (g .i) (meaning (kindRule (g .two)) (now (g .bytes)))) (c .tell .result) (g .i) (now (g .bytes)) (c .tell .ensures)
-    (find-entry (kindRule (g .two)) (now (g .bytes)) (t .check .result) (t .check .ensures) (c .before .before .before .enum-told .given .1) (c .before .before .count .result) (c .before .before .count .ensures) (g .i) (c .before .if1 .taken))
+    (find-entry (kindRule (g .two)) (now (g .bytes)) (t .check .result) (t .check .ensures) (c .before .before .before .enum-told .given .1) (c .before .before .count .result) (c .before .before .count .ensures) (g .i) (omega (arith, c .before .if1 .taken)))
 
 returns-2 : tie.Need-returns-2
 returns-2 c =
@@ -49,7 +50,7 @@ returns-3 c =
     let t = c .before .before .before .before in
     let g = t .before .before .args in
     told-missing (find (g .i) (meaning (kindRule (g .two)) (now (g .bytes)))) NotBelow
-    (find-past (kindRule (g .two)) (now (g .bytes)) (t .check .result) (t .check .ensures) (c .before .before .enum-told .given .1) (c .before .count .result) (c .before .count .ensures) (g .i) (c .if1 .left))
+    (find-past (kindRule (g .two)) (now (g .bytes)) (t .check .result) (t .check .ensures) (c .before .before .enum-told .given .1) (c .before .count .result) (c .before .count .ensures) (g .i) (omega (arith, c .if1 .left)))
 
 pub entry-spec : {M : Type 1} → statement M
 entry-spec =

@@ -54,7 +54,7 @@ returns-2 c =
     let n = length (now (g .words)) in
     let e = lent-unfit n F (g .i) (c .before .words-in .result) (now (g .bytes))
     (find-entry (kindRule (g .two)) (now (g .bytes)) (t .check .result) (t .check .ensures) (E .enum-told .given .1) (I .before .count .result) (I .before .count .ensures) (g .i) (omega (arith, I .if1 .left)))
-    (c .before .words-in .ensures .0) (c .if2 .taken) in
+    (c .before .words-in .ensures .0) (λ z. omega (arith, c .if2 .taken, z)) in
     (told-missing (lentFor n F) WrongLength e, kept (lentFor n F) WrongLength (now (g .words)) e)
 
 fill-requires : tie.Need-fill-requires
@@ -64,7 +64,7 @@ fill-requires c κs =
     let t = E .before .before in
     let g = t .before .before .before .args in
     let G = good-entry (kindRule (g .two)) (now (g .bytes)) (t .check .result) (t .check .ensures) (E .enum-told .given .1) (I .before .count .result) (I .before .count .ensures) (g .i) (omega (arith, I .if1 .left)) in
-    (G .head, G .short, good-room (kindRule (g .two)) (g .i) (now (g .bytes)) G (length (now (g .words))) (c .before .before .words-in .result) (c .before .if2 .left) (c .before .before .words-in .ensures .0))
+    (G .head, G .short, good-room (kindRule (g .two)) (g .i) (now (g .bytes)) G (length (now (g .words))) (c .before .before .words-in .result) (omega (arith, c .before .if2 .left)) (c .before .before .words-in .ensures .0))
 
 tell-requires : tie.Need-tell-requires
 tell-requires c κs =
@@ -99,9 +99,9 @@ returns-4 c =
     let n = length (now (g .words)) in
     let e = lent-fit n F (g .i) (T .before .words-in .result) (now (g .bytes))
     (find-entry (kindRule (g .two)) (now (g .bytes)) (t .check .result) (t .check .ensures) (E .enum-told .given .1) (I .before .count .result) (I .before .count .ensures) (g .i) (omega (arith, I .if1 .left)))
-    (T .before .words-in .ensures .0) (T .if2 .left) in (
+    (T .before .words-in .ensures .0) (omega (arith, T .if2 .left)) in (
       told-found (lentFor n F) (c .tell .result) (g .i) (now (g .bytes)) (c .tell .ensures) e,
-      unpacked (lentFor n F) (g .i) n (T .before .words-in .result) (now (g .bytes)) (now (g .words)) _ (λ j. t .before .before .shared-slice-known .given j .fits) e (T .if2 .left) (T .before .words-in .ensures .0)
+      unpacked (lentFor n F) (g .i) n (T .before .words-in .result) (now (g .bytes)) (now (g .words)) _ (λ j. t .before .before .shared-slice-known .given j .fits) e (omega (arith, T .if2 .left)) (T .before .words-in .ensures .0)
           (c .before .before .before .fill .ensures),
     )
 

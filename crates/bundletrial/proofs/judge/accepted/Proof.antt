@@ -1,16 +1,14 @@
--- The buffer keeps its length from turn to turn.
+-- No fact is kept between turns.
 use Prim.Native.Nat.{_-_}
-use mathlib.Core.Path.{_≡_}
-use lib.ListN.{length}
 use borrow.Author.Needs.{needs}
 use Rattle.bundletrial.proofs.judge.accepted.Statement.{statement}
 use Rattle.bundletrial.proofs.judge.accepted.Tie as tie
 
 abbrev Inv-loop : tie.InvT-loop
-Inv-loop b words₀ n i₀ words i = length words ≡ length words₀
+Inv-loop b n i₀ i = Unit {0}
 
 abbrev μ-loop : tie.MeasureT-loop
-μ-loop b words₀ n i₀ words i = n - i
+μ-loop b n i₀ i = n - i
 
 count-requires : tie.Need-count-requires Inv-loop μ-loop
 count-requires c κs = search needs
@@ -30,9 +28,6 @@ loop-holds c = search needs
 entry-requires : tie.Need-entry-requires Inv-loop μ-loop
 entry-requires c κs = search needs
 
-same-length : tie.Need-same-length Inv-loop μ-loop
-same-length c = search needs
-
 returns-2 : tie.Need-returns-2 Inv-loop μ-loop
 returns-2 c = search needs
 
@@ -44,9 +39,6 @@ loop-less c = search needs
 
 loop-again : tie.Need-loop-again Inv-loop μ-loop
 loop-again c = search needs
-
-same-length-2 : tie.Need-same-length-2 Inv-loop μ-loop
-same-length-2 c = search needs
 
 returns-3 : tie.Need-returns-3 Inv-loop μ-loop
 returns-3 c = search needs
@@ -63,10 +55,8 @@ accepted-spec =
     returns
     loop-holds
     entry-requires
-    same-length
     returns-2
     add-i
     loop-less
     loop-again
-    same-length-2
     returns-3)

@@ -1,17 +1,14 @@
--- Nothing has to hold from turn to turn.
+-- No fact is kept between turns.
 use Prim.Native.Nat.{_-_}
 use borrow.Author.Needs.{needs}
 use Rattle.bundletrial.proofs.plain.word.Statement.{statement}
 use Rattle.bundletrial.proofs.plain.word.Tie as tie
 
 abbrev Inv-loop : tie.InvT-loop
-Inv-loop b at kind columns r j w last x₀ k₀ x k = Unit {0}
+Inv-loop b at kind columns r j last x₀ k₀ x k = Unit {0}
 
 abbrev μ-loop : tie.MeasureT-loop
-μ-loop b at kind columns r j w last x₀ k₀ x k = 64 - k
-
-width-requires : tie.Need-width-requires Inv-loop μ-loop
-width-requires c κs = search needs
+μ-loop b at kind columns r j last x₀ k₀ x k = 64 - k
 
 product-requires : tie.Need-product-requires Inv-loop μ-loop
 product-requires c κs = search needs
@@ -25,8 +22,8 @@ loop-holds c = search needs
 less-requires : tie.Need-less-requires Inv-loop μ-loop
 less-requires c κs = search needs
 
-bit-requires : tie.Need-bit-requires Inv-loop μ-loop
-bit-requires c κs = search needs
+digit-requires : tie.Need-digit-requires Inv-loop μ-loop
+digit-requires c κs = search needs
 
 add-k : tie.Need-add-k Inv-loop μ-loop
 add-k c = search needs
@@ -46,12 +43,11 @@ word-spec =
     (tie.spec
     Inv-loop
     μ-loop
-    width-requires
     product-requires
     sum-requires
     loop-holds
     less-requires
-    bit-requires
+    digit-requires
     add-k
     loop-less
     loop-again

@@ -1,17 +1,18 @@
 -- The loop's invariant: the local row has the sum of the last step's code, and every code of the steps passed has its sum.
-use Rattle.engine.proofs.Sums.{small}
-use Rattle.engine.proofs.Sums.{Local, local-start, local-more, codes-turn}
-use Rattle.engine.proofs.Sums.{ends, pow-two, first-sum, codes-start, codes-done, additions-done}
-use Rattle.engine.specs.Stage.{rowAt, Codes}
+use Rattle.engine.proofs.Sums.{small, joins-below, Codes, codes-start, codes-turn, codes-done, additions-done, Local, local-start, local-more}
+use Rattle.engine.proofs.Tails.{spaced-row}
+use Rattle.engine.specs.Stage.{spaced}
 use Rattle.method.proofs.Gray.{gray-lt}
 use Rattle.method.specs.Gray.{gray}
-use Rattle.words.proofs.Rows.{rest-paste, getD-rows}
 use Rattle.words.proofs.Parts.{length-part}
-use Rattle.words.proofs.Value.{fits-fit}
-use Rattle.words.specs.Words.{rowsOf, value}
+use Rattle.words.proofs.Rows.{row-end, rest-paste}
+use Rattle.words.proofs.Value.{fits-fit, part-fits}
+use Rattle.words.specs.Words.{rowsOf}
 use Rattle.gf2.specs.Rows.{row, part}
 use Prim.Native.Nat.{ℕ, _+_, _-_, _*_, _^_, _<_, _≤_}
+use lib.Count.{trailingZeros}
 use lib.ListN.{length, drop}
+use lib.Pow.{pow-pos}
 use mathlib.Core.List.{List}
 use mathlib.Core.Path.{_≡_, refl, sym, ap, _∙_, subst}
 use denote.Ref.{now}
@@ -20,86 +21,79 @@ use Rattle.engine.proofs.table.make.Statement.{statement}
 use Rattle.engine.proofs.table.make.Tie as tie
 
 abbrev Inv-loop : tie.InvT-loop
-Inv-loop codes t₀ m n base r w x₀ end additions₀ l₀ t x additions l = Codes l (part base r (rowsOf w n m)) (row (rowsOf w (2 ^ r) t)) × Local w l (part base r (rowsOf w n m)) x × (drop (2 ^ r * w) t ≡ drop (2 ^ r * w) t₀) × (length t ≡ length t₀) × (additions ≡ l - 1) × (1 < l) × (l ≤ end)
+Inv-loop codes t₀ m a r w v x₀ end additions₀ l₀ t x additions l = Codes l (spaced a w v r m) (row (rowsOf v (2 ^ r) t)) × Local v l (spaced a w v r m) x × (drop (2 ^ r * v) t ≡ drop (2 ^ r * v) t₀) × (length t ≡ length t₀) × (additions + 1 ≡ l) × (l ≤ end)
 
 abbrev μ-loop : tie.MeasureT-loop
-μ-loop codes t₀ m n base r w x₀ end additions₀ l₀ t x additions l = end - l
-
-slice-aggregate-copy-row : tie.Need-slice-aggregate-copy-row Inv-loop μ-loop
-slice-aggregate-copy-row c = refl
-
-copy-row-requires : tie.Need-copy-row-requires Inv-loop μ-loop
-copy-row-requires c κs =
-    let s = c .before .before .before .before in
-    (omega (arith, s .pre .0 .narrow), ends 1 (2 ^ s .args .r) (s .args .w) (length (now (s .args .t))) (pow-two (s .args .r) (s .pre .2)) (s .pre .4))
+μ-loop codes t₀ m a r w v x₀ end additions₀ l₀ t x additions l = end - l
 
 pow2-requires : tie.Need-pow2-requires Inv-loop μ-loop
-pow2-requires c κs = c .before .before .before .before .before .before .pre .3
+pow2-requires c κs = c .before .before .pre .0
 
 loop-holds : tie.Need-loop-holds Inv-loop μ-loop
 loop-holds c =
-    let s = c .before .before .before .before .before .before .before in
-    let a = s .args in
-    let L : List ℕ = rowsOf (a .w) (a .n) (now (a .m)) in
-    let hb : a .base < a .n = omega (arith, s .pre .1, s .pre .2) in
-    let h₁ : 1 < 2 ^ a .r = pow-two (a .r) (s .pre .2) in (
-      codes-start (part (a .base) (a .r) L) (row (rowsOf (a .w) (2 ^ a .r) (now (a .t))))
-          (getD-rows (a .w) (2 ^ a .r) (now (a .t)) 1 h₁ ∙ ap value (s .pre .5) ∙ sym (getD-rows (a .w) (a .n) (now (a .m)) (a .base) hb) ∙ sym (first-sum (a .base) (a .r) L (s .pre .2))),
-      local-start (a .w) (a .n) (a .base) (a .r) 1 (now (a .m)) (now (a .t)) (c .before .before .copy-row .last .0) hb (s .pre .2) (s .pre .0 .narrow)
-          (ends 1 (2 ^ a .r) (a .w) (length (now (a .t))) h₁ (s .pre .4)) (fits-fit (now (a .t)) (c .before .before .before .before .before .before .slice-known .given)) (s .pre .5)
-          (c .before .before .copy-row .ensures) (c .before .before .copy-row .kept .0),
-      refl,
+    let s = c .before .before .before in
+    let a = s .args in (
+      codes-start (spaced (a .a) (a .w) (a .v) (a .r) (now (a .m))) (row (rowsOf (a .v) (2 ^ a .r) (now (a .t)))),
+      local-start (a .v) (spaced (a .a) (a .w) (a .v) (a .r) (now (a .m))) (s .pre .1),
       refl,
       refl,
       omega arith,
-      omega (arith, c .pow2 .ensures, h₁),
+      omega (arith, c .pow2 .ensures, pow-pos (a .r)),
     )
 
 step-requires : tie.Need-step-requires Inv-loop μ-loop
 step-requires c κs =
-    let s = c .before .before .before .before .before .before .before .before .before .before .before in
+    let s = c .before .before .before .before .before .before .before in
+    let a = s .args in
     let l = c .before .before .before .loop in
-    (s .pre .0, s .pre .1, s .pre .3, omega (arith, s .pre .4, l .inv .3), l .inv .1 .long, l .inv .5, omega (arith, c .before .before .loop-test .taken, c .before .before .before .before .pow2 .ensures), s .pre .6)
+    let hl : l .l < 2 ^ a .r = omega (arith, c .before .before .loop-test .taken, c .before .before .before .before .pow2 .ensures) in
+    let hz : trailingZeros 32 (l .l) < a .r = joins-below (a .r) (l .l) (s .pre .0) hl (omega (arith, l .inv .4)) in
+    (small (a .r) (l .l) (s .pre .0) hl, l .inv .1 .long, s .pre .1, s .pre .2 (trailingZeros 32 (l .l)) hz, row-end (l .t) (a .v) (2 ^ a .r) (gray (l .l)) (omega (arith, s .pre .3, l .inv .3)) (gray-lt (a .r) (l .l) hl), s .pre .4)
 
 add-additions : tie.Need-add-additions Inv-loop μ-loop
 add-additions c =
-    let s = c .before .before .before .before .before .before .before .before .before .before .before .before .before .before in
+    let a = c .before .before .before .before .before .before .before .before .before .before .args in
     let l = c .before .before .before .before .before .before .loop in
-    omega (arith, l .inv .4, small (s .args .r) (l .l) (s .pre .3) (omega (arith, c .before .before .before .before .before .loop-test .taken, c .before .before .before .before .before .before .before .pow2 .ensures)))
+    let hl : l .l < 2 ^ a .r = omega (arith, c .before .before .before .before .before .loop-test .taken, c .before .before .before .before .before .before .before .pow2 .ensures) in
+    omega (arith, l .inv .4, small (a .r) (l .l) (c .before .before .before .before .before .before .before .before .before .before .pre .0) hl)
 
 add-l : tie.Need-add-l Inv-loop μ-loop
 add-l c =
-    let s = c .before .before .before .before .before .before .before .before .before .before .before .before .before .before in
+    let a = c .before .before .before .before .before .before .before .before .before .before .args in
     let l = c .before .before .before .before .before .before .loop in
-    omega (arith, small (s .args .r) (l .l) (s .pre .3) (omega (arith, c .before .before .before .before .before .loop-test .taken, c .before .before .before .before .before .before .before .pow2 .ensures)))
+    let hl : l .l < 2 ^ a .r = omega (arith, c .before .before .before .before .before .loop-test .taken, c .before .before .before .before .before .before .before .pow2 .ensures) in
+    omega (arith, small (a .r) (l .l) (c .before .before .before .before .before .before .before .before .before .before .pre .0) hl)
 
 loop-less : tie.Need-loop-less Inv-loop μ-loop
 loop-less c = omega (arith, c .before .before .before .before .before .loop-test .taken)
 
 loop-again : tie.Need-loop-again Inv-loop μ-loop
 loop-again c =
-    let s = c .before .before .before .before .before .before .before .before .before .before .before .before .before .before in
+    let s = c .before .before .before .before .before .before .before .before .before .before in
     let a = s .args in
     let l = c .before .before .before .before .before .before .loop in
     let k = c .before .before .step in
-    let L : List ℕ = rowsOf (a .w) (a .n) (now (a .m)) in
-    let P : List ℕ = part (a .base) (a .r) L in
+    let P : List ℕ = spaced (a .a) (a .w) (a .v) (a .r) (now (a .m)) in
     let N : ℕ = 2 ^ a .r in
+    let hl : l .l < 2 ^ a .r = omega (arith, c .before .before .before .before .before .loop-test .taken, c .before .before .before .before .before .before .before .pow2 .ensures) in
     let t′ : List ℕ = k .last .1 .0 in
     let x′ : List ℕ = k .last .1 .1 .0 in
-    let hl : l .l < N = omega (arith, c .before .before .before .before .before .loop-test .taken, c .before .before .before .before .before .before .before .pow2 .ensures) in
-    let ht : N * a .w ≤ length (l .t) = omega (arith, s .pre .4, l .inv .3) in
-    let hg : gray (l .l) < N = gray-lt (a .r) (l .l) hl in
-    let lx : length (rowAt 0 (a .w) x′) ≡ a .w = length-part (0 * a .w) (a .w) x′ (omega (arith, k .ensures .0, s .pre .0 .narrow)) in
-    let loc : Local (a .w) (l .l + 1) P x′ =
-    local-more (a .w) (a .n) (a .base) (a .r) (l .l) L (now (a .m)) (l .x) x′ refl (s .pre .1) (s .pre .3) (l .inv .5) hl (s .pre .0 .narrow)
-    (fits-fit (now (a .m)) (c .before .before .before .before .before .before .before .before .before .before .before .before .shared-slice-known .given)) (k .ensures .1) (k .ensures .0) (l .inv .1) in (
-      codes-turn (λ j. j) (λ j k e. e) (a .w) N (l .l) P (l .t) t′ x′ hg ht (s .pre .0 .narrow) (k .ensures .2) loc (l .inv .0),
+    let z : ℕ = trailingZeros 32 (l .l) in
+    let g : ℕ = gray (l .l) in
+    let hz : z < a .r = joins-below (a .r) (l .l) (s .pre .0) hl (omega (arith, l .inv .4)) in
+    let at : ℕ = a .a + z * a .w in
+    let ht : N * a .v ≤ length (l .t) = omega (arith, s .pre .3, l .inv .3) in
+    let hg : g < N = gray-lt (a .r) (l .l) hl in
+    let y : List ℕ = part at (a .v) (now (a .m)) in
+    let lx : length (part 0 (a .v) x′) ≡ a .v = length-part 0 (a .v) x′ (omega (arith, k .ensures .0, s .pre .1)) in
+    let loc : Local (a .v) (l .l + 1) P x′ =
+    local-more (a .v) (a .r) (l .l) P y (l .x) x′ (s .pre .0) (omega (arith, l .inv .4)) hl (s .pre .1) (length-part at (a .v) (now (a .m)) (s .pre .2 z hz))
+    (part-fits (now (a .m)) at (a .v) (fits-fit (now (a .m)) (c .before .before .before .before .before .before .before .before .shared-slice-known .given))) (sym (spaced-row (a .a) (a .w) (a .v) (a .r) (now (a .m)) z hz)) (k .ensures .1) (k .ensures .0) (l .inv .1) in (
+      codes-turn (a .v) N (l .l) P (l .t) t′ x′ hg ht (s .pre .1) (k .ensures .2) loc (l .inv .0),
       loc,
-      ap (drop (N * a .w)) (k .ensures .2) ∙ rest-paste (a .w) N (gray (l .l)) (l .t) (rowAt 0 (a .w) x′) hg ht lx ∙ l .inv .2,
-      c .before .before .step .kept .1 .0 ∙ c .before .before .before .before .before .before .loop .inv .3,
-      omega (arith, l .inv .4, l .inv .5),
-      omega (arith, l .inv .5),
+      ap (drop (N * a .v)) (k .ensures .2) ∙ rest-paste (a .v) N g (l .t) (part 0 (a .v) x′) hg ht lx ∙ l .inv .2,
+      k .kept .1 .0 ∙ l .inv .3,
+      omega (arith, l .inv .4),
       omega (arith, c .before .before .before .before .before .loop-test .taken),
     )
 
@@ -108,13 +102,14 @@ same-length c = c .before .loop .inv .3
 
 returns : tie.Need-returns Inv-loop μ-loop
 returns c =
-    let s = c .before .before .before .before .before .before .before .before .before in
+    let s = c .before .before .before .before .before in
     let a = s .args in
     let l = c .before .loop in
-    let P : List ℕ = part (a .base) (a .r) (rowsOf (a .w) (a .n) (now (a .m))) in
-    let T : ℕ → ℕ = row (rowsOf (a .w) (2 ^ a .r) (l .t)) in
-    let e : l .l ≡ 2 ^ a .r = omega (arith, l .inv .6, c .loop-test .left, c .before .before .pow2 .ensures) in
-    (additions-done (a .r) (l .l) (l .additions) e (l .inv .4), codes-done (a .r) P T (subst (λ (q : ℕ). Codes q P T) e (l .inv .0)), l .inv .2)
+    let P : List ℕ = spaced (a .a) (a .w) (a .v) (a .r) (now (a .m)) in
+    let T : ℕ → ℕ = row (rowsOf (a .v) (2 ^ a .r) (l .t)) in
+    let p = c .before .before .pow2 .ensures in
+    let e : l .l ≡ 2 ^ a .r = omega (arith, l .inv .5, c .loop-test .left, p) in
+    (omega (arith, additions-done (a .r) (l .l) e, l .inv .4), codes-done (a .r) P T (subst (λ (q : ℕ). Codes q P T) e (l .inv .0)), l .inv .2)
 
 pub make-spec : {M : Type 1} → statement M
 make-spec =
@@ -122,8 +117,6 @@ make-spec =
     (tie.spec
     Inv-loop
     μ-loop
-    slice-aggregate-copy-row
-    copy-row-requires
     pow2-requires
     loop-holds
     step-requires

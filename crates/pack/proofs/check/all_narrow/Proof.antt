@@ -4,7 +4,8 @@ use mathlib.Core.Path.{_≡_, refl, sym, _∙_}
 use Prim.Native.Nat.{_-_}
 use lib.ListN.{length}
 use Rattle.pack.specs.Writing.{given, allNarrow}
-use Rattle.pack.proofs.Turns.{Going, rest, body-same, body-fits, going-start, met, going-on, narrow-turn, narrow-stop, narrow-end}
+use Rattle.bundle.proofs.Bodies.{body-same}
+use Rattle.pack.proofs.Turns.{Going, rest, body-fits, going-start, met, going-on, narrow-turn, narrow-stop, narrow-end}
 use borrow.Author.Needs.{needs}
 use native.Mathlib.Omega.{arith}
 use Rattle.pack.proofs.check.all_narrow.Statement.{statement}

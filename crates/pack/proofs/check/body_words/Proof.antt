@@ -1,7 +1,8 @@
 -- Rows times words, both at most what 16 bits give.
 use mathlib.Core.Path.{ap₂, _∙_}
 use Rattle.bundle.specs.Bundle.{bodyWords}
-use Rattle.pack.proofs.Turns.{body-small, body-same}
+use Rattle.bundle.proofs.Bodies.{body-same}
+use Rattle.pack.proofs.Turns.{body-small}
 use borrow.Author.Needs.{needs}
 use native.Mathlib.Omega.{arith}
 use Rattle.pack.proofs.check.body_words.Statement.{statement}

@@ -8,7 +8,8 @@ use Rattle.bundle.specs.Bundle.{headBytes}
 use Rattle.pack.specs.Encode.{bodiesOf}
 use Rattle.pack.specs.Writing.{given}
 use Rattle.pack.specs.Steps.{splice}
-use Rattle.pack.proofs.Turns.{Going, rest, body-same, body-fits, going-start, met, going-on, bodies-start, bodies-turn, bodies-end}
+use Rattle.bundle.proofs.Bodies.{body-same}
+use Rattle.pack.proofs.Turns.{Going, rest, body-fits, going-start, met, going-on, bodies-start, bodies-turn, bodies-end}
 use borrow.Author.Needs.{needs}
 use native.Mathlib.Omega.{arith}
 use Rattle.pack.proofs.put.bodies.Statement.{statement}

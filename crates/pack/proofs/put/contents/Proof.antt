@@ -7,7 +7,8 @@ use Rattle.bundle.specs.Bundle.{headBytes}
 use Rattle.pack.specs.Encode.{contentsOf}
 use Rattle.pack.specs.Writing.{given}
 use Rattle.pack.specs.Steps.{splice}
-use Rattle.pack.proofs.Turns.{Going, rest, body-same, body-fits, going-start, met, going-on, contents-start, contents-turn, contents-end}
+use Rattle.bundle.proofs.Bodies.{body-same}
+use Rattle.pack.proofs.Turns.{Going, rest, body-fits, going-start, met, going-on, contents-start, contents-turn, contents-end}
 use borrow.Author.Needs.{needs}
 use native.Mathlib.Omega.{arith}
 use Rattle.pack.proofs.put.contents.Statement.{statement}

@@ -2,8 +2,7 @@
 use denote.Ref.{now}
 use mathlib.Core.Path.{_≡_, refl, _∙_}
 use Prim.Native.Nat.{_+_, _-_, _≤_}
-use lib.ListN.{length}
-use lib.ListN.{length-set}
+use lib.ListN.{length, length-set}
 use Rattle.wire.specs.Bytes.{bytesOf}
 use Rattle.pack.specs.Steps.{splice}
 use Rattle.pack.proofs.Splices.{number-start, number-turn, number-end}

@@ -27,16 +27,37 @@ words-requires c κs = search needs
 
 loop-holds : tie.Need-loop-holds Inv-loop μ-loop
 unfolding rowLines
-loop-holds c = let g = c .before .before .before .args in let z : min (g .p) (length (now (g .out))) ≡ g .p = omega (arith, c .before .before .before .pre .0) in (search needs, subst (λ (r : ℕ). Put (g .p) [] (now (g .out)) r (now (g .out))) z (put-none (g .p) (now (g .out))), refl)
+loop-holds c =
+    let g = c .before .before .before .args in
+    let z : min (g .p) (length (now (g .out))) ≡ g .p = omega (arith, c .before .before .before .pre .2) in
+    (search needs, subst (λ (r : ℕ). Put (g .p) [] (now (g .out)) r (now (g .out))) z (put-none (g .p) (now (g .out))), refl)
 
 mul-a : tie.Need-mul-a Inv-loop μ-loop
-mul-a c = let s = c .before .before .before .before .before in let g = s .args in let i = c .before .loop .i in let ew = c .before .before .words .ensures in let inside = row-inside i (g .n) (c .before .before .words .result) (wordsOf (g .columns)) (length (now (g .words))) (c .loop-test .taken) ew (s .pre .1) in omega (arith, inside, s .good .1 .1 .0 .0)
+mul-a c =
+    let s = c .before .before .before .before .before in
+    let g = s .args in
+    let i = c .before .loop .i in
+    let ew = c .before .before .words .ensures in
+    let inside = row-inside i (g .n) (c .before .before .words .result) (wordsOf (g .columns)) (length (now (g .words))) (c .loop-test .taken) ew (s .pre .1) in
+    omega (arith, inside, s .good .1 .1 .0 .0)
 
 add-e : tie.Need-add-e Inv-loop μ-loop
-add-e c = let s = c .before .before .before .before .before in let g = s .args in let i = c .before .loop .i in let ew = c .before .before .words .ensures in let inside = row-inside i (g .n) (c .before .before .words .result) (wordsOf (g .columns)) (length (now (g .words))) (c .loop-test .taken) ew (s .pre .1) in omega (arith, inside, s .good .1 .1 .0 .0)
+add-e c =
+    let s = c .before .before .before .before .before in
+    let g = s .args in
+    let i = c .before .loop .i in
+    let ew = c .before .before .words .ensures in
+    let inside = row-inside i (g .n) (c .before .before .words .result) (wordsOf (g .columns)) (length (now (g .words))) (c .loop-test .taken) ew (s .pre .1) in
+    omega (arith, inside, s .good .1 .1 .0 .0)
 
 mul-bits : tie.Need-mul-bits Inv-loop μ-loop
-mul-bits c = let s = c .before .before .before .before .before .before in let g = s .args in let i = c .before .before .loop .i in let ew = c .before .before .before .words .ensures in let inside = row-inside i (g .n) (c .before .before .before .words .result) (wordsOf (g .columns)) (length (now (g .words))) (c .before .loop-test .taken) ew (s .pre .1) in omega (arith, inside, s .good .1 .1 .0 .0)
+mul-bits c =
+    let s = c .before .before .before .before .before .before in
+    let g = s .args in
+    let i = c .before .before .loop .i in
+    let ew = c .before .before .before .words .ensures in
+    let inside = row-inside i (g .n) (c .before .before .before .words .result) (wordsOf (g .columns)) (length (now (g .words))) (c .before .loop-test .taken) ew (s .pre .1) in
+    omega (arith, inside, s .good .1 .1 .0 .0)
 
 sub-bits : tie.Need-sub-bits Inv-loop μ-loop
 sub-bits c = search needs
@@ -45,7 +66,13 @@ part-bits-start : tie.Need-part-bits-start Inv-loop μ-loop
 part-bits-start c = search needs
 
 part-bits-end : tie.Need-part-bits-end Inv-loop μ-loop
-part-bits-end c = let s = c .before .before .before .before .before .before in let g = s .args in let i = c .before .before .loop .i in let ew = c .before .before .before .words .ensures in let inside = row-inside i (g .n) (c .before .before .before .words .result) (wordsOf (g .columns)) (length (now (g .words))) (c .before .loop-test .taken) ew (s .pre .1) in omega (arith, inside)
+part-bits-end c =
+    let s = c .before .before .before .before .before .before in
+    let g = s .args in
+    let i = c .before .before .loop .i in
+    let ew = c .before .before .before .words .ensures in
+    let inside = row-inside i (g .n) (c .before .before .before .words .result) (wordsOf (g .columns)) (length (now (g .words))) (c .before .loop-test .taken) ew (s .pre .1) in
+    omega (arith, inside)
 
 bits-requires : tie.Need-bits-requires Inv-loop μ-loop
 bits-requires c κs = search needs
@@ -63,13 +90,19 @@ loop-less : tie.Need-loop-less Inv-loop μ-loop
 loop-less c = search needs
 
 loop-again : tie.Need-loop-again Inv-loop μ-loop
-loop-again c = let s = c .before .before .before .before .before .before .before .before .before .before .before .before .before .before .before in let g = s .args in let l = c .before .before .before .before .before .before .before .before .before .before .before in (search needs, subst (λ (t : List ℕ). Put (g .p) t (now (g .out)) (c .before .before .bytes .result) (c .before .before .bytes .last .0)) (words-more (g .columns) (l .loop .i) (g .n) (c .before .before .before .before .before .before .before .before .before .before .before .before .words .result) _ _ (now (g .words)) (c .before .before .before .before .before .before .before .before .before .before .loop-test .taken) (c .before .before .before .before .before .before .before .before .before .before .before .before .words .ensures) refl refl (s .pre .2)) (put-then (l .loop .inv .1) (put-then (c .before .before .before .before .before .before .before .bits .ensures) (c .before .before .bytes .ensures))), search needs)
+loop-again c =
+    let s = c .before .before .before .before .before .before .before .before .before .before .before .before .before .before .before in
+    let g = s .args in
+    let l = c .before .before .before .before .before .before .before .before .before .before .before in
+    (search needs, subst (λ (t : List ℕ). Put (g .p) t (now (g .out)) (c .before .before .bytes .result) (c .before .before .bytes .last .0)) (words-more (g .columns) (l .loop .i) (g .n) (c .before .before .before .before .before .before .before .before .before .before .before .before .words .result) _ _ (now (g .words)) (c .before .before .before .before .before .before .before .before .before .before .loop-test .taken) (c .before .before .before .before .before .before .before .before .before .before .before .before .words .ensures) refl refl (s .pre .0)) (put-then (l .loop .inv .1) (put-then (c .before .before .before .before .before .before .before .bits .ensures) (c .before .before .bytes .ensures))), search needs)
 
 same-length : tie.Need-same-length Inv-loop μ-loop
 same-length c = search needs
 
 returns : tie.Need-returns Inv-loop μ-loop
-returns c = let g = c .before .before .before .before .before .args in subst (λ (t : List ℕ). Put (g .p) (rowLines (g .columns) t) (now (g .out)) (c .before .loop .q) (c .before .loop .out)) (take-all (c .before .loop .i) (rowsOf (wordsOf (g .columns)) (g .n) (now (g .words))) (omega (arith, c .loop-test .left, length-rows (wordsOf (g .columns)) (g .n) (now (g .words))))) (c .before .loop .inv .1)
+returns c =
+    let g = c .before .before .before .before .before .args in
+    subst (λ (t : List ℕ). Put (g .p) (rowLines (g .columns) t) (now (g .out)) (c .before .loop .q) (c .before .loop .out)) (take-all (c .before .loop .i) (rowsOf (wordsOf (g .columns)) (g .n) (now (g .words))) (omega (arith, c .loop-test .left, length-rows (wordsOf (g .columns)) (g .n) (now (g .words))))) (c .before .loop .inv .1)
 
 pub row-lines-spec : {M : Type 1} → statement M
 row-lines-spec =

@@ -1,16 +1,14 @@
--- The buffers keep their lengths from turn to turn.
+-- No fact is kept between turns.
 use Prim.Native.Nat.{_-_}
-use mathlib.Core.Path.{_≡_}
-use lib.ListN.{length}
 use borrow.Author.Needs.{needs}
 use Rattle.trial.proofs.inverses.all.Statement.{statement}
 use Rattle.trial.proofs.inverses.all.Tie as tie
 
 abbrev Inv-loop : tie.InvT-loop
-Inv-loop m₀ copy₀ wide₀ result₀ room₀ t₀ n₀ m copy wide result room t n = (length m ≡ 8722) × (length copy ≡ 8722) × (length wide ≡ 16384) × (length result ≡ 8722) × (length room ≡ 13184)
+Inv-loop t₀ n₀ t n = Unit {0}
 
 abbrev μ-loop : tie.MeasureT-loop
-μ-loop m₀ copy₀ wide₀ result₀ room₀ t₀ n₀ m copy wide result room t n = 19480 - n
+μ-loop t₀ n₀ t n = 19480 - n
 
 none-requires : tie.Need-none-requires Inv-loop μ-loop
 none-requires c κs = search needs
@@ -18,23 +16,20 @@ none-requires c κs = search needs
 loop-holds : tie.Need-loop-holds Inv-loop μ-loop
 loop-holds c = search needs
 
-slice-aggregate-case : tie.Need-slice-aggregate-case Inv-loop μ-loop
-slice-aggregate-case c = search needs
+start-requires : tie.Need-start-requires Inv-loop μ-loop
+start-requires c κs = search needs
 
-slice-aggregate-case-2 : tie.Need-slice-aggregate-case-2 Inv-loop μ-loop
-slice-aggregate-case-2 c = search needs
+size-requires : tie.Need-size-requires Inv-loop μ-loop
+size-requires c κs = search needs
 
-slice-aggregate-case-3 : tie.Need-slice-aggregate-case-3 Inv-loop μ-loop
-slice-aggregate-case-3 c = search needs
+add-one : tie.Need-add-one Inv-loop μ-loop
+add-one c = search needs
 
-slice-aggregate-case-4 : tie.Need-slice-aggregate-case-4 Inv-loop μ-loop
-slice-aggregate-case-4 c = search needs
+kind-of-requires : tie.Need-kind-of-requires Inv-loop μ-loop
+kind-of-requires c κs = search needs
 
-slice-aggregate-case-5 : tie.Need-slice-aggregate-case-5 Inv-loop μ-loop
-slice-aggregate-case-5 c = search needs
-
-case-requires : tie.Need-case-requires Inv-loop μ-loop
-case-requires c κs = search needs
+one-requires : tie.Need-one-requires Inv-loop μ-loop
+one-requires c κs = search needs
 
 count-requires : tie.Need-count-requires Inv-loop μ-loop
 count-requires c κs = search needs
@@ -59,12 +54,11 @@ all-spec =
     μ-loop
     none-requires
     loop-holds
-    slice-aggregate-case
-    slice-aggregate-case-2
-    slice-aggregate-case-3
-    slice-aggregate-case-4
-    slice-aggregate-case-5
-    case-requires
+    start-requires
+    size-requires
+    add-one
+    kind-of-requires
+    one-requires
     count-requires
     add-n
     loop-less

@@ -1,16 +1,14 @@
--- The buffer keeps its length from turn to turn.
+-- No fact is kept between turns.
 use Prim.Native.Nat.{_-_}
-use mathlib.Core.Path.{_≡_}
-use lib.ListN.{length}
 use borrow.Author.Needs.{needs}
 use Rattle.trial.proofs.views.all.Statement.{statement}
 use Rattle.trial.proofs.views.all.Tie as tie
 
 abbrev Inv-loop : tie.InvT-loop
-Inv-loop m₀ t₀ x₀ n₀ m t x n = length m ≡ length m₀
+Inv-loop t₀ x₀ n₀ t x n = Unit {0}
 
 abbrev μ-loop : tie.MeasureT-loop
-μ-loop m₀ t₀ x₀ n₀ m t x n = 1920 - n
+μ-loop t₀ x₀ n₀ t x n = 1920 - n
 
 none-requires : tie.Need-none-requires Inv-loop μ-loop
 none-requires c κs = search needs
@@ -36,9 +34,6 @@ loop-less c = search needs
 loop-again : tie.Need-loop-again Inv-loop μ-loop
 loop-again c = search needs
 
-same-length : tie.Need-same-length Inv-loop μ-loop
-same-length c = search needs
-
 returns : tie.Need-returns Inv-loop μ-loop
 returns c = search needs
 
@@ -56,5 +51,4 @@ all-spec =
     add-n
     loop-less
     loop-again
-    same-length
     returns)

@@ -1,0 +1,12 @@
+-- The answer that is told.
+use Rattle.matrix.proofs.refused.Statement.{statement}
+use Rattle.matrix.proofs.refused.Tie as tie
+
+told-requires : tie.Need-told-requires
+told-requires c κs = tt
+
+returns : tie.Need-returns
+returns c = c .told .ensures
+
+pub refused-spec : {M : Type 1} → statement M
+refused-spec = tie.close (tie.spec told-requires returns)
