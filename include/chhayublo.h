@@ -1,12 +1,13 @@
 /*
- * Chhayublo: dense linear algebra over the field of two elements, for C11 and C++17 on x86-64 Linux (System V ABI).
+ * Chhayublo: dense linear algebra over GF(2), for C11 and C++17 on x86-64 Linux (System V ABI).
  * Link with target/staticlib/libchhayublo.a, which `rt staticlib chhayublo` writes. It needs memcpy, memmove and memset
  * and nothing else, keeps no state between calls and allocates nothing.
  *
  * MATRICES
- *   A matrix has 0 to 512 rows and 1 to 1024 columns. A row takes W = chhayublo_words(columns) words of 64 bits; rows follow
- *   each other without gaps, so that a matrix takes rows * W words. Column c of a row is the bit of weight 2^(c mod 64) of the
- *   row's word c / 64. Bits past the last column are padding and must be 0: 64 columns have none, 65 have 63 in each row.
+ *   Up to 512 rows, none included, and 1 to 1024 columns. W = chhayublo_words(columns) words of 64 bits store a row, and the
+ *   next row begins right behind it: rows * W words in all. Word c / 64 of a row has column c as its bit c % 64, counted from
+ *   the lowest. What the last word of a row has beyond the last column is padding, each bit of which has to be 0: 64 columns
+ *   leave none, 65 leave 63 bits a row.
  *
  * BUFFERS
  *   A buffer is a pointer and, next to it, its length in elements (words, bytes or list entries: never bytes for words).
@@ -28,7 +29,7 @@
  *   0 stands for no refusal. Each call lists its refusals in the order in which they are looked for: the first that applies is
  *   the answer. A refused call changes no buffer, the room included, with these two exceptions:
  *     9 (no inverse)      the result is unchanged, the room is cleared as told under ROOM;
- *     10 (contradictory)  the matrix holds its reduced form, image and marks are unchanged, the room is cleared.
+ *     10 (contradictory)  the packets are left in reduced form, image and marks untouched, the room cleared.
  *   Beside any refusal, 10 included, every other number of an answer is 0, and all 512 pivots are CHHAYUBLO_NO_PIVOT.
  */
 #ifndef CHHAYUBLO_H
@@ -53,14 +54,16 @@ enum {
     CHHAYUBLO_NO_PIVOT = 65535          /* stands in a pivot list past the rank */
 };
 
-/* why a call refused */
+/* why a call refused; crates/refusals/specs/Outcome.antt gives these numbers to the names that the proofs use */
 enum chhayublo_refusal {
     CHHAYUBLO_DONE = 0,                   /* not refused */
     CHHAYUBLO_TOO_MANY_ROWS = 1,          /* rows over 512 */
     CHHAYUBLO_BAD_COLUMNS = 2,            /* columns 0 or over 1024 */
     CHHAYUBLO_BAD_K = 3,                  /* k 0 or over 8 */
-    CHHAYUBLO_WRONG_MATRIX_LENGTH = 4,    /* other than rows * W words, more or fewer; likewise for an entry's words */
-    CHHAYUBLO_PADDING_NOT_ZERO = 5,       /* a padding bit of the matrix is 1 */
+    CHHAYUBLO_WRONG_MATRIX_LENGTH = 4,    /* other than rows * W words, more or fewer; likewise the words lent for an entry,
+                                             and the writer's words together */
+    CHHAYUBLO_PADDING_NOT_ZERO = 5,       /* a padding bit is 1: of the matrix or the packets, of a body in a bundle, of the
+                                             writer's words */
     CHHAYUBLO_ROOM_TOO_SHORT = 6,         /* the room has fewer words than needed; more are fine */
     CHHAYUBLO_BAD_BLOCK_COUNT = 7,        /* n, the number of blocks, is 0 or not below columns */
     CHHAYUBLO_NOT_SQUARE = 8,             /* rows differ from columns */
@@ -123,8 +126,12 @@ typedef struct chhayublo_length {
 } chhayublo_length;
 
 CHHAYUBLO_STATIC_ASSERT(sizeof(size_t) == 8, "chhayublo: 64-bit targets only");
+CHHAYUBLO_STATIC_ASSERT(sizeof(chhayublo_row) == 2 * 8, "chhayublo: no padding in a row");
 CHHAYUBLO_STATIC_ASSERT(sizeof(chhayublo_answer) == 4 * 8 + 512 * 2, "chhayublo: no padding in an answer");
+CHHAYUBLO_STATIC_ASSERT(sizeof(chhayublo_names) == 2 * 8, "chhayublo: no padding in names");
+CHHAYUBLO_STATIC_ASSERT(sizeof(chhayublo_count) == 2 * 8, "chhayublo: no padding in a count");
 CHHAYUBLO_STATIC_ASSERT(sizeof(chhayublo_entry) == 4 * 8, "chhayublo: no padding in an entry");
+CHHAYUBLO_STATIC_ASSERT(sizeof(chhayublo_length) == 2 * 8, "chhayublo: no padding in a length");
 
 /*
  * SIZES, in words of 64 bits. They are right for every shape that passes the checks (rows to 512, columns 1 to 1024, k 1 to 8).
@@ -149,13 +156,15 @@ static inline size_t chhayublo_reduce_room(size_t columns, size_t k)
     return ((size_t)1 << k) * chhayublo_words(columns);
 }
 
-/* room of chhayublo_invert for n rows and n columns: n + 2^k rows, each as wide as 2n columns */
+/* room of chhayublo_invert for n rows and n columns: the matrix beside an identity, which makes 2n columns, and a table of 2^k
+   such rows */
 static inline size_t chhayublo_invert_room(size_t n, size_t k)
 {
     return (n + ((size_t)1 << k)) * chhayublo_words(2 * n);
 }
 
-/* room of chhayublo_contradiction: rows + 2^k rows, each as wide as columns + rows columns */
+/* room of chhayublo_contradiction: the packets beside an identity, which makes columns + rows columns, and a table of 2^k such
+   rows */
 static inline size_t chhayublo_contradiction_room(size_t rows, size_t columns, size_t k)
 {
     return (rows + ((size_t)1 << k)) * chhayublo_words(columns + rows);
@@ -176,9 +185,9 @@ static inline size_t chhayublo_bundle_bytes(size_t entries, size_t words)
 chhayublo_row chhayublo_row_view(const uint64_t *matrix, size_t matrix_words, size_t rows, size_t columns, size_t i);
 
 /*
- * REDUCTION: brings the matrix into its reduced row echelon form, in place: zero rows last, the first one of each other row
- * (its pivot) right of the pivot above it, and no other one in a pivot's column. There is exactly one such matrix of this size
- * with the same row space.
+ * REDUCTION: brings the matrix into its reduced row echelon form, in place: rows of zeros at the end, the leftmost 1 of every
+ * other row (its pivot) further right than that of the row above, zeros above and below each pivot. Among the matrices of this
+ * size with the same row space it is the only one of that form.
  *   matrix  read and written: rows * W words
  *   room    chhayublo_reduce_room(columns, k) words or more
  * Refusals in order: 1, 2, 3, 4, 6, 5.
@@ -200,9 +209,9 @@ uint64_t chhayublo_invert(const uint64_t *matrix, size_t matrix_words, size_t ro
                           uint64_t *result, size_t result_words, uint64_t *room, size_t room_words);
 
 /*
- * SOLVING of a list of packets. An image is n blocks of p = columns - n bits each. A packet is a row of n coefficients, then p
- * payload bits; an image meets it if the xor of the blocks whose coefficient is 1 is the payload. The order of packets, and how
- * often one is repeated, makes no difference. n goes up to 1023.
+ * SOLVING of a list of packets. Wanted is an image: n blocks, p = columns - n bits in each. The first n columns of a packet
+ * choose blocks, the other p carry its payload; an image meets the packet if the chosen blocks xor to the payload. The order of
+ * packets, and how often one is repeated, makes no difference. n goes up to 1023.
  *   packets  read and written: rows * W words, a packet a row; 0 rows are allowed
  *   image    written: exactly n * chhayublo_words(p) words, block b at word b * chhayublo_words(p)
  *   marks    written: exactly n bytes
@@ -210,9 +219,9 @@ uint64_t chhayublo_invert(const uint64_t *matrix, size_t matrix_words, size_t ro
  * Refusals in order: 1, 2, 7, 3, 4, 13 (image or marks), 6, 5; then 10 exactly if no image meets all packets: the packets then
  * hold their reduced form, over all columns, image and marks are as they were, the room is cleared, and the answer tells
  * neither rank nor pivots.
- * Else: the packets hold their reduced form. Mark b is 1 exactly if all images that meet the packets agree on block b, else 0.
- * The image holds the content of each block so known, and zeros for every other block and for padding. rank, pivots and additions
- * are those of the reduction over all columns; known is the number of marks that are 1. The room is cleared.
+ * Else: the packets hold their reduced form. Mark b is 1 exactly if every image that meets the packets has the same block b, and
+ * 0 if not. The image holds the content of each block so known, and zeros for every other block and for padding. rank, pivots and
+ * additions are those of the reduction over all columns; known is the number of marks that are 1. The room is cleared.
  */
 chhayublo_answer chhayublo_solve(uint64_t *packets, size_t packets_words, size_t rows, size_t columns, size_t n, size_t k,
                                  uint64_t *image, size_t image_words, uint8_t *marks, size_t marks_bytes,
@@ -227,9 +236,9 @@ chhayublo_answer chhayublo_solve(uint64_t *packets, size_t packets_words, size_t
  *   room     chhayublo_contradiction_room(rows, columns, k) words or more
  * Refusals in order: 1, 2, 7, 11, 3, 4, 13 (names), 6, 5.
  * Else the room is cleared, and named is 1, or it is 0 if some image meets all packets, and then the names are as they were.
- * Which packets are named follows from the packets and their order alone, not from k: with an identity of `rows` columns put on
- * the right of the packets and all of it reduced, it is the last `rows` bits of the row whose pivot is the leftmost in the
- * payload columns. They need not be the fewest that contradict each other.
+ * Which packets are named follows from the packets and their order alone, not from k: put an identity of `rows` columns on the
+ * right of the packets, reduce all of it, and take the topmost row with its pivot in a payload column; the last `rows` bits of
+ * that row are the names. They need not be the fewest that contradict each other.
  */
 chhayublo_names chhayublo_contradiction(const uint64_t *packets, size_t packets_words, size_t rows, size_t columns, size_t n,
                                         size_t k, uint64_t *names, size_t names_words, uint64_t *room, size_t room_words);
@@ -239,9 +248,10 @@ chhayublo_names chhayublo_contradiction(const uint64_t *packets, size_t packets_
  *   2 bytes             the number of entries
  *   10 bytes an entry   kind, rows, columns: 2 bytes each; offset of its body from the bundle's start: 4 bytes
  *   the bodies          in order and without gaps, each rows * W words of 8 bytes
- * Kind 1 has the order of bits told under MATRICES. Kind 2 has column c at weight 2^(63 - c mod 64) of word c / 64, so that its
- * padding is at the low end of a row's last word. Lent words are in the order of kind 1 in every call, for entries of either kind.
- * A bundle that is accepted, unpacked and written again gives the same bytes, and what is written unpacks to what was given.
+ * Kind 1 has the order of bits told under MATRICES. Kind 2 turns each word round: column c is bit 63 - c % 64 of word c / 64, and
+ * a row's padding is the lowest bits of its last word. Lent words are in the order of kind 1 in every call, for entries of either
+ * kind. Unpack every entry of an accepted bundle and write them again, and its bytes come back; the other way round, each entry of
+ * a bundle that was written unpacks to the words it was written from.
  */
 
 /*
@@ -253,7 +263,7 @@ chhayublo_names chhayublo_contradiction(const uint64_t *packets, size_t packets_
 chhayublo_count chhayublo_bundle_read(const uint8_t *bundle, size_t bundle_bytes);
 
 /*
- * Kind, rows and columns of entry i, counted from 0.
+ * What entry i is: its kind, its rows and its columns. The first entry is number 0.
  *   bundle  read: bundle_bytes bytes
  * Refusals in order: those of chhayublo_bundle_read, on the whole bundle, whichever entry is asked for; then 12.
  */

@@ -1,11 +1,11 @@
-//! Dense linear algebra over the field of two elements: reduced row echelon form, inverses, the solving of xor packets,
-//! contradictions, and bundles that carry matrices. The work is done by a proved library, linked as an archive; this crate lends
-//! it slices and turns its refusals into [`Refusal`].
+//! Dense linear algebra over GF(2): reduced row echelon form, inverses, the solving of xor packets, contradictions, and bundles of
+//! matrices. The work is done by a proved library, linked as an archive; this crate lends it slices and turns its refusals into
+//! [`Refusal`].
 //!
-//! A matrix has up to 512 rows and 1 to 1,024 columns. A row takes [`words`]`(columns)` words of 64 bits, rows follow each other
-//! without gaps, and column c of a row is the bit of weight 2^(c mod 64) of its word c / 64. Bits past the last column must be 0.
-//! k, from 1 to 8, is the width of the windows in which columns are worked off: it changes the time and the number of additions
-//! told, and nothing else; 7 or 8 is fastest for large matrices.
+//! A matrix has no more than 512 rows and 1 to 1,024 columns, and stores each row in [`words`]`(columns)` words of 64 bits, right
+//! behind the row above. Word c / 64 of a row has column c as its bit c % 64, counted from the lowest; the bits that the last word
+//! has left over must be 0. k, from 1 to 8, is the width of the windows in which columns are worked off: it changes the time and
+//! the number of additions told, and nothing else; 7 or 8 is fastest for large matrices.
 //!
 //! No function panics or asks anything of its arguments: what does not fit is refused, and unless said otherwise a refused call
 //! changes nothing. Working room is kept in a [`Room`] that can be used for any number of calls.

@@ -39,7 +39,7 @@ refusals! {
     NoInverse = 9, "the matrix has no inverse";
     Contradictory = 10, "no image meets all packets";
     TooWide = 11, "columns and packets together over 1,024";
-    NotBelowCount = 12, "row or entry number not below the count";
+    NotBelowCount = 12, "a row or entry that is not there: its number must be below the count";
     WrongBufferLength = 13, "a buffer or list of the wrong length";
     BadBundleLength = 20, "bundle of under 2 or over 65,535 bytes";
     BadEntryCount = 21, "no entry, or over 64";
