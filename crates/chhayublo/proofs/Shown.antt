@@ -1,5 +1,5 @@
 -- The row view by the part x that the inner call shows: its length tells whether there is a row, as a row has a word.
-use mathlib.Core.Path.{_≡_, refl, ap, _∙_}
+use mathlib.Core.Path.{_≡_, refl, ap, ap₂, _∙_}
 use mathlib.Core.List.{List}
 use Prim.Native.Nat.{ℕ, _*_, _+_, _≤_, _<_}
 use native.Mathlib.Nat.{mul-zero}
@@ -14,17 +14,14 @@ use Rattle.refusals.specs.declared.Outcome.{Outcome}
 use Rattle.refusals.specs.declared.Outcome.the-variants.{Done, Refused}
 use Rattle.refusals.specs.Checks.{viewChecks}
 use Rattle.refusals.proofs.Passed.{view-passed}
-use Rattle.matrix.specs.Calls.{shown, rowView}
+use Rattle.matrix.specs.Calls.{shown, shownFrom, rowView}
 use Rattle.chhayublo.specs.declared.Row.{Row}
-use Rattle.chhayublo.specs.Calls.{rowAt}
 
--- row i, of w words
-abbrev at : ℕ → ℕ → Row
-at i w = rowAt Done i w
-
--- r says where the row stands, and the words there are those that are shown
+-- r is the part that is shown, and the words there are its words
 abbrev Placed : ℕ → List ℕ → Outcome → ℕ → Row → Type 0
-Placed i m o w r = (r ≡ rowAt o i w) × (part (r .start) (r .words) m ≡ shown o i w m)
+Placed i m o w r =
+    (r ≡ record { start = shownFrom o i w; words = length (shown o i w m) })
+    × (part (r .start) (r .words) m ≡ shown o i w m)
 
 module _ (rows columns i : ℕ) (m x : List ℕ) (e : x ≡ rowView rows columns i m) where
   ends : viewChecks rows columns (length m) i ≡ Done → i * wordsOf columns + wordsOf columns ≤ length m
@@ -37,8 +34,11 @@ module _ (rows columns i : ℕ) (m x : List ℕ) (e : x ≡ rowView rows columns
       let h = view-passed rows columns (length m) i f .some in
       omega (arith, h)
 
+  shows : viewChecks rows columns (length m) i ≡ Done → x ≡ part (i * wordsOf columns) (wordsOf columns) m
+  shows f = e ∙ ap (λ (o : Outcome). shown o i (wordsOf columns) m) f
+
   sized : viewChecks rows columns (length m) i ≡ Done → length x ≡ wordsOf columns
-  sized f = ap length (e ∙ ap (λ (o : Outcome). shown o i (wordsOf columns) m) f) ∙ length-part (i * wordsOf columns) (wordsOf columns) m (ends f)
+  sized f = ap length (shows f) ∙ length-part (i * wordsOf columns) (wordsOf columns) m (ends f)
 
   none : {r : Refusal} → viewChecks rows columns (length m) i ≡ Refused r → length x ≡ 0
   none f = ap length (e ∙ ap (λ (o : Outcome). shown o i (wordsOf columns) m) f)
@@ -50,12 +50,18 @@ module _ (rows columns i : ℕ) (m x : List ℕ) (e : x ≡ rowView rows columns
       go (Refused r) f = (refl, refl)
       go Done f = absurd (omega (arith, some f, sized f))
 
-  pub view-some : (length x ≡ 0 → ⊥) → Placed i m (viewChecks rows columns (length m) i) (wordsOf columns) (at i (length x))
+  pub view-some : (length x ≡ 0 → ⊥) → Placed i m (viewChecks rows columns (length m) i) (wordsOf columns) (record { start = i * length x; words = length x })
   view-some z = go (viewChecks rows columns (length m) i) refl
     where
-      go : (o : Outcome) → viewChecks rows columns (length m) i ≡ o → Placed i m o (wordsOf columns) (at i (length x))
+      seen : ℕ → ℕ → Row
+      seen a w = record { start = a; words = w }
+
+      go : (o : Outcome) → viewChecks rows columns (length m) i ≡ o → Placed i m o (wordsOf columns) (seen (i * length x) (length x))
       go (Refused r) f = absurd (z (none f))
-      go Done f = (ap (at i) (sized f), ap (λ (w : ℕ). part (i * w) w m) (sized f))
+      go Done f = (
+        ap₂ seen (ap (λ (w : ℕ). i * w) (sized f)) (ap length (shows f)),
+        ap (λ (w : ℕ). part (i * w) w m) (sized f),
+      )
 
   -- the row's first word lies in the buffer, or is word 0
   pub view-start : i * length x ≤ length m

@@ -1,9 +1,10 @@
 -- How an answer of a call is seen from C: a refusal as its number, 0 where nothing is refused.
-use Prim.Native.Nat.{ℕ, _*_}
-use Rattle.refusals.specs.declared.Outcome.{Outcome}
-use Rattle.refusals.specs.declared.Outcome.the-variants as outcome
+use mathlib.Core.List.{List}
+use Prim.Native.Nat.{ℕ}
+use lib.ListN.{length}
 use Rattle.refusals.specs.Outcome.{outcomeNumber}
 use Rattle.matrix.specs.declared.Answer as matrix
+use Rattle.matrix.specs.Calls.{rowView, rowPlace}
 use Rattle.packets.specs.declared.Verdict.{Verdict}
 use Rattle.packets.specs.declared.Verdict.the-variants as verdict
 use Rattle.packets.specs.Contradiction.{verdictNumber}
@@ -22,10 +23,9 @@ use Rattle.chhayublo.specs.declared.Count.{Count}
 use Rattle.chhayublo.specs.declared.Entry.{Entry}
 use Rattle.chhayublo.specs.declared.Length.{Length}
 
--- where row i of w words stands; nowhere, if the view is refused
-abbrev pub rowAt : Outcome → ℕ → ℕ → Row
-rowAt outcome.Done i w = record { start = i * w; words = w }
-rowAt (outcome.Refused r) i w = record { start = 0; words = 0 }
+-- the part that the row view shows: the place of its first word in the caller's buffer, and how many words it has
+abbrev pub seenRow : ℕ → ℕ → ℕ → List ℕ → Row
+seenRow rows columns i m = record { start = rowPlace rows columns i (length m); words = length (rowView rows columns i m) }
 
 abbrev pub seenAnswer : matrix.Answer → Answer
 seenAnswer a = record { refusal = outcomeNumber (a .outcome); rank = a .rank; known = a .known; additions = a .additions; pivots = a .pivots }

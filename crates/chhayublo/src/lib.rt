@@ -2,10 +2,8 @@
 ghost use mathlib.Core.Path.{_≡_};
 ghost use lib.ListN.{length};
 ghost use Rattle.gf2.specs.Rows.{part};
-ghost use Rattle.words.specs.Words.{wordsOf};
 ghost use Rattle.refusals.specs.declared.Outcome.{Outcome};
 ghost use Rattle.refusals.specs.Outcome.{outcomeNumber};
-ghost use Rattle.refusals.specs.Checks.{viewChecks};
 ghost use Rattle.matrix.specs.declared.Answer as matrix;
 ghost use Rattle.matrix.specs.Calls.{rowView, reduction};
 ghost use Rattle.inverse.specs.Calls.{inversion};
@@ -15,7 +13,7 @@ ghost use Rattle.packets.specs.Contradiction.{naming};
 ghost use Rattle.bundle.specs.Bundle.{bothKinds, meaning};
 ghost use Rattle.bundle.specs.Answers.{countedIn, find, toldOf, lentEntry, unpackedOf};
 ghost use Rattle.pack.specs.Writing.{written, output};
-ghost use Rattle.chhayublo.specs.Calls.{rowAt, seenAnswer, seenVerdict, seenCount, seenEntry, seenLength};
+ghost use Rattle.chhayublo.specs.Calls.{seenRow, seenAnswer, seenVerdict, seenCount, seenEntry, seenLength};
 use bundle::Counted;
 use bundle::Told;
 use pack::Written;
@@ -70,7 +68,7 @@ pub struct Length {
 
 #[no_mangle]
 pub extern "C" fn chhayublo_row_view(m: &[u64], rows: usize, columns: usize, i: usize) -> Row
-    ensures { λ r. ⌜ (r ≡ rowAt (viewChecks rows columns (length (now (m .entry))) i) i (wordsOf columns)) × (part (r .start) (r .words) (now (m .entry)) ≡ rowView rows columns i (now (m .entry))) ⌝ }
+    ensures { λ r. ⌜ (r ≡ seenRow rows columns i (now (m .entry))) × (part (r .start) (r .words) (now (m .entry)) ≡ rowView rows columns i (now (m .entry))) ⌝ }
 {
     let shown = matrix::row_view(m, rows, columns, i);
     let words = shown.len();

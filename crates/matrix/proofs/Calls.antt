@@ -17,13 +17,17 @@ use Rattle.refusals.specs.Checks.{viewChecks, reductionChecks, ReductionPasses}
 use Rattle.refusals.proofs.Passed.{reduction-passed, view-passed}
 use Rattle.engine.specs.Core.{Fits, pivotRecord, twoSlices}
 use Rattle.matrix.specs.declared.Answer.{Answer}
-use Rattle.matrix.specs.Calls.{shown, rowView, answerOf, refusedAnswer, byOutcome, reduction}
+use Rattle.matrix.specs.Calls.{shown, rowView, shownFrom, rowPlace, answerOf, refusedAnswer, byOutcome, reduction}
 
 -- ---- the row view
 
 module _ (rows columns i : ℕ) (m : List ℕ) (o : Outcome) (e : o ≡ viewChecks rows columns (length m) i) where
   pub view-refused : {x : Refusal} → o ≡ Refused x → [] ≡ rowView rows columns i m
   view-refused f = ap (λ (q : Outcome). shown q i (wordsOf columns) m) (sym f ∙ e)
+
+  -- and it begins where it should, whatever stands before the buffer
+  pub refused-place : {x : Refusal} (before : ℕ) → o ≡ Refused x → 0 * 8 + before ≡ rowPlace rows columns i (length m) * 8 + before
+  refused-place before f = ap (λ (q : Outcome). shownFrom q i (wordsOf columns) * 8 + before) (sym f ∙ e)
 
   pub view-ends : (w : ℕ) → o ≡ Done → w ≡ wordsOf columns → i * w + w ≤ length m
   view-ends w f h =
@@ -35,6 +39,10 @@ module _ (rows columns i : ℕ) (m : List ℕ) (o : Outcome) (e : o ≡ viewChec
   view-shown w f h =
       let d : (i * w + w) - i * w ≡ w = omega arith in
       ap (λ (x : ℕ). take x (drop (i * w) m)) d ∙ ap (λ (x : ℕ). part (i * x) x m) h ∙ ap (λ (q : Outcome). shown q i (wordsOf columns) m) (sym f ∙ e)
+
+  pub shown-place : (w before : ℕ) → o ≡ Done → w ≡ wordsOf columns → i * w * 8 + before ≡ rowPlace rows columns i (length m) * 8 + before
+  shown-place w before f h =
+      ap (λ (x : ℕ). i * x * 8 + before) h ∙ ap (λ (q : Outcome). shownFrom q i (wordsOf columns) * 8 + before) (sym f ∙ e)
 
 -- ---- the reduction
 

@@ -1,11 +1,11 @@
 -- What the row view and the reduction promise.
 use mathlib.Core.Path.{_≡_}
 use mathlib.Core.List.{List, []}
-use Prim.Native.Nat.{ℕ, _*_, _^_}
+use Prim.Native.Nat.{ℕ, _-_, _*_, _^_, _≤_, _<_}
 use lib.ListN.{length, replicate}
-use Rattle.gf2.specs.Rows.{part}
+use Rattle.gf2.specs.Rows.{row, part}
 use Rattle.gf2.specs.Reduced.{ReducedForm, rank}
-use Rattle.gf2.specs.Additions.{additions}
+use Rattle.gf2.specs.Additions.{windows, additions}
 use Rattle.words.specs.Words.{wordsOf, rowsOf}
 use Rattle.refusals.specs.declared.Refusal.{Refusal}
 use Rattle.refusals.specs.declared.Outcome.{Outcome}
@@ -23,6 +23,14 @@ shown (Refused r) i w m = []
 abbrev pub rowView : ℕ → ℕ → ℕ → List ℕ → List ℕ
 rowView rows columns i m = shown (viewChecks rows columns (length m) i) i (wordsOf columns) m
 
+-- where that part begins, in words from the front of the buffer: at row i; the empty part at the front
+abbrev pub shownFrom : Outcome → ℕ → ℕ → ℕ
+shownFrom Done i w = i * w
+shownFrom (Refused r) i w = 0
+
+abbrev pub rowPlace : ℕ → ℕ → ℕ → ℕ → ℕ
+rowPlace rows columns i len = shownFrom (viewChecks rows columns len i) i (wordsOf columns)
+
 -- ---- the answer of reduction and of solving
 
 abbrev pub answerOf : Outcome → ℕ → ℕ → ℕ → List ℕ → Answer
@@ -35,6 +43,13 @@ refusedAnswer r = answerOf (Refused r) 0 0 0 (replicate 512 65535)
 -- rank, table additions and pivots are those of the reduced matrix
 abbrev pub reducedAnswer : ℕ → ℕ → List ℕ → Answer
 reducedAnswer k columns N = answerOf Done (rank N) 0 (additions k columns N) (pivotRecord 512 N)
+
+-- what holds of every answer, refused or not: at most 2 ^ k - 1 table additions for each window; pivots that rise, below the columns, with 65,535 behind them
+pub record WithinBounds (columns k : ℕ) (r : Answer) : Type 0 where
+  pub few-additions : r .additions ≤ (2 ^ k - 1) * windows k columns
+  pub rising : (i j : ℕ) → i < j → j < r .rank → row (r .pivots) i < row (r .pivots) j
+  pub below : (i : ℕ) → i < r .rank → row (r .pivots) i < columns
+  pub behind : (i : ℕ) → r .rank ≤ i → i < 512 → row (r .pivots) i ≡ 65535
 
 -- ---- the reduction: refused with nothing changed; or the matrix has become its reduced form, and the needed words of the work room are zero
 

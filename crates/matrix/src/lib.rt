@@ -1,6 +1,8 @@
 // The row view, and the reduction by the table.
 ghost use mathlib.Core.Path.{_≡_};
-ghost use Rattle.matrix.specs.Calls.{rowView, answerOf, refusedAnswer, reduction};
+ghost use lib.ListN.{length};
+ghost use Rattle.words.specs.Words.{StandsAt};
+ghost use Rattle.matrix.specs.Calls.{rowView, rowPlace, answerOf, refusedAnswer, reduction};
 use refusals::Outcome;
 use refusals::Refusal;
 
@@ -16,7 +18,7 @@ pub struct Answer {
 
 // the words of row i, lent on from the caller's matrix; no words where the call refuses
 pub fn row_view(m: &[u64], rows: usize, columns: usize, i: usize) -> &[u64]
-    ensures { λ x. ⌜ now x ≡ rowView rows columns i (now (m .entry)) ⌝ }
+    ensures { λ x. ⌜ (now x ≡ rowView rows columns i (now (m .entry))) × StandsAt (rowPlace rows columns i (length (now (m .entry)))) x (m .entry) ⌝ }
 {
     let o = refusals::view(rows, columns, m.len(), i);
     match o {

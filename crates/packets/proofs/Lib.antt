@@ -4,3 +4,4 @@ pub mod Naming
 pub mod Marks
 pub mod Lists
 pub mod Once
+pub mod Exactly

@@ -1,3 +1,4 @@
 pub mod Division
 pub mod Padding
 pub mod Passed
+pub mod Never

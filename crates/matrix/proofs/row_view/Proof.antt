@@ -1,6 +1,7 @@
--- The checks passed: row i lies within the buffer. Else the part is empty.
-use denote.Ref.{now}
-use Rattle.matrix.proofs.Calls.{view-refused, view-ends, view-shown}
+-- The checks passed: row i lies within the buffer, and the part begins there. Else the part is empty, and begins at the front.
+use mathlib.Core.Path.{refl}
+use denote.Ref.{now, ptr}
+use Rattle.matrix.proofs.Calls.{view-refused, refused-place, view-ends, view-shown, shown-place}
 use native.Mathlib.Omega.{arith}
 use borrow.Author.Needs.{needs}
 use Rattle.matrix.proofs.row_view.Statement.{statement}
@@ -28,13 +29,28 @@ words-requires : tie.Need-words-requires
 words-requires c κs = search needs
 
 mul-a : tie.Need-mul-a
-mul-a c = omega (arith, view-ends (c .before .before .before .before .before .args .rows) (c .before .before .before .before .before .args .columns) (c .before .before .before .before .before .args .i) (now (c .before .before .before .before .before .args .m)) (c .before .before .before .view .result) (c .before .before .before .view .ensures) (c .words .result) (c .before .enum-told .given .1) (c .words .ensures), c .before .before .before .before .before .good .0 .0)
+mul-a c =
+    let start = c .before .before .before .before .before in
+    let g = start .args in
+    let checked = c .before .before .before .view in
+    let inside = view-ends (g .rows) (g .columns) (g .i) (now (g .m)) (checked .result) (checked .ensures) in
+    omega (arith, inside (c .words .result) (c .before .enum-told .given .1) (c .words .ensures), start .good .0 .0)
 
 add-e : tie.Need-add-e
-add-e c = omega (arith, view-ends (c .before .before .before .before .before .args .rows) (c .before .before .before .before .before .args .columns) (c .before .before .before .before .before .args .i) (now (c .before .before .before .before .before .args .m)) (c .before .before .before .view .result) (c .before .before .before .view .ensures) (c .words .result) (c .before .enum-told .given .1) (c .words .ensures), c .before .before .before .before .before .good .0 .0)
+add-e c =
+    let start = c .before .before .before .before .before in
+    let g = start .args in
+    let checked = c .before .before .before .view in
+    let inside = view-ends (g .rows) (g .columns) (g .i) (now (g .m)) (checked .result) (checked .ensures) in
+    omega (arith, inside (c .words .result) (c .before .enum-told .given .1) (c .words .ensures), start .good .0 .0)
 
 mul-result : tie.Need-mul-result
-mul-result c = omega (arith, view-ends (c .before .before .before .before .before .args .rows) (c .before .before .before .before .before .args .columns) (c .before .before .before .before .before .args .i) (now (c .before .before .before .before .before .args .m)) (c .before .before .before .view .result) (c .before .before .before .view .ensures) (c .words .result) (c .before .enum-told .given .1) (c .words .ensures), c .before .before .before .before .before .good .0 .0)
+mul-result c =
+    let start = c .before .before .before .before .before in
+    let g = start .args in
+    let checked = c .before .before .before .view in
+    let inside = view-ends (g .rows) (g .columns) (g .i) (now (g .m)) (checked .result) (checked .ensures) in
+    omega (arith, inside (c .words .result) (c .before .enum-told .given .1) (c .words .ensures), start .good .0 .0)
 
 sub-result-2 : tie.Need-sub-result-2
 sub-result-2 c = search needs
@@ -43,13 +59,31 @@ part-result-start-2 : tie.Need-part-result-start-2
 part-result-start-2 c = search needs
 
 part-result-end-2 : tie.Need-part-result-end-2
-part-result-end-2 c = omega (arith, view-ends (c .before .before .before .before .before .args .rows) (c .before .before .before .before .before .args .columns) (c .before .before .before .before .before .args .i) (now (c .before .before .before .before .before .args .m)) (c .before .before .before .view .result) (c .before .before .before .view .ensures) (c .words .result) (c .before .enum-told .given .1) (c .words .ensures))
+part-result-end-2 c =
+    let g = c .before .before .before .before .before .args in
+    let checked = c .before .before .before .view in
+    let inside = view-ends (g .rows) (g .columns) (g .i) (now (g .m)) (checked .result) (checked .ensures) in
+    omega (arith, inside (c .words .result) (c .before .enum-told .given .1) (c .words .ensures))
 
 returns : tie.Need-returns
-returns c = let g = c .before .before .before .before .before .before .args in view-refused (g .rows) (g .columns) (g .i) (now (g .m)) (c .before .before .before .before .view .result) (c .before .before .before .before .view .ensures) (c .before .before .o .given .1)
+returns c =
+    let g = c .before .before .before .before .before .before .args in
+    let checked = c .before .before .before .before .view in
+    let refused = c .before .before .o .given .1 in (
+      view-refused (g .rows) (g .columns) (g .i) (now (g .m)) (checked .result) (checked .ensures) refused,
+      (refl, refused-place (g .rows) (g .columns) (g .i) (now (g .m)) (checked .result) (checked .ensures) (ptr (g .m) .1) refused),
+    )
 
 returns-2 : tie.Need-returns-2
-returns-2 c = let g = c .before .before .before .before .before .before .args in view-shown (g .rows) (g .columns) (g .i) (now (g .m)) (c .before .before .before .before .view .result) (c .before .before .before .before .view .ensures) (c .before .words .result) (c .before .before .enum-told .given .1) (c .before .words .ensures)
+returns-2 c =
+    let g = c .before .before .before .before .before .before .args in
+    let checked = c .before .before .before .before .view in
+    let passed = c .before .before .enum-told .given .1 in
+    let w = c .before .words .result in
+    let width = c .before .words .ensures in (
+      view-shown (g .rows) (g .columns) (g .i) (now (g .m)) (checked .result) (checked .ensures) w passed width,
+      (refl, shown-place (g .rows) (g .columns) (g .i) (now (g .m)) (checked .result) (checked .ensures) w (ptr (g .m) .1) passed width),
+    )
 
 pub row-view-spec : {M : Type 1} → statement M
 row-view-spec =
