@@ -4,3 +4,4 @@ pub mod FromEntries
 pub mod FromLists
 pub mod SameBytes
 pub mod Written
+pub mod Calls

@@ -1,9 +1,9 @@
 -- What unpacking a bundle entry by entry gives: the lists that the writer takes.
 use mathlib.Core.List.{List, [], _∷_, _++_, map}
 use Prim.Native.Nat.{ℕ}
-use lib.ListN.{take}
+use lib.ListN.{take, drop, getD}
 use Rattle.words.specs.Words.{wordsOf, flat}
-use Rattle.bundle.specs.Bundle.{Entry}
+use Rattle.bundle.specs.Bundle.{Entry, bodyWords}
 use Rattle.pack.specs.Writing.{allWords}
 
 -- the lists of their numbers
@@ -24,3 +24,7 @@ wordsOfAll (e ∷ es) = flat (wordsOf (e .columns)) (e .matrix) ++ wordsOfAll es
 -- where the words of entry i begin, among those given for all entries
 abbrev pub startOf : ℕ → List ℕ → List ℕ → ℕ
 startOf i rs cs = allWords (take i rs) (take i cs)
+
+-- the words given for entry i
+abbrev pub wordsGiven : ℕ → List ℕ → List ℕ → List ℕ → List ℕ
+wordsGiven i rs cs ws = take (bodyWords (getD rs i 0) (getD cs i 0)) (drop (startOf i rs cs) ws)
