@@ -102,6 +102,7 @@ unfolding writtenBy
 answered Done m n e = (refl, cc)
 answered (Refused r) m n e = (cc, cc)
 
+-- a write that answered n bytes; kinds are below 65,536 and words fit 64 bits, as in every slice
 module _ (ks rs cs ws out : List ℕ) (small : (i : ℕ) → getD ks i 0 < 65536) (fit : Fit ws) (w : WriteCall ks rs cs ws out) (n : ℕ) (e : w .answer ≡ answer.Bytes n) where
   abbrev B : List ℕ
   B = encode (given ks rs cs ws)
@@ -118,8 +119,8 @@ module _ (ks rs cs ws out : List ℕ) (small : (i : ℕ) → getD ks i 0 < 65536
   unfolding outputBy
   front = ap (take n) (w .promise .1 ∙ ap (λ (o : Outcome). outputBy o B out) (passed .0)) ∙ take-at B (drop (length B) out) n long
 
-  -- A write that answered n bytes: the first n bytes of the output are a bundle. `read` answers as many entries as were given; unpacking entry i into as many words
-  -- as its rows take answers kind, rows and columns number i, and leaves the words given for it.
+  -- The first n bytes that it left are a bundle: `read` answers as many entries as were given; unpacking entry i, lent as many words as its rows take, answers
+  -- kind, rows and columns number i of those given, and leaves the words given for it.
   pub unpacked-by-calls : (length (take n (w .out′)) ≡ n) × ((r : ReadCall (take n (w .out′))) → r .answer ≡ counted.Entries (length ks))
       × ((i : ℕ) → i < length ks → (c : UnpackCall (take n (w .out′)) i) → length (c .words) ≡ bodyWords (getD rs i 0) (getD cs i 0)
       → (c .answer ≡ told.Entry (getD ks i 0) (getD rs i 0) (getD cs i 0)) × (c .words′ ≡ wordsGiven i rs cs ws))
@@ -135,8 +136,8 @@ module _ (ks rs cs ws out : List ℕ) (small : (i : ℕ) → getD ks i 0 < 65536
 
 -- ---- such calls there are
 
--- Of any bytes, n entries can be unpacked with words of the right length. Which bytes `read` accepts say bundle/proofs/Exactly, `exactly`, and bundle/proofs/Passing,
--- `bundle-passes`; the sample is one (bundle/proofs/Holds, `sample-means`).
+-- For any bytes and any n there are n such calls; that none is refused where `read` accepts the bytes says `written-by-calls`. The sample is accepted
+-- (bundle/proofs/Holds: `sample-means`), and so is all that passes (bundle/proofs/Passing: `bundle-passes`).
 pub unpacking : (b : List ℕ) (i n : ℕ) → Unpacking b i n
 unpacking b i zero = none
 unpacking b i (suc n) =
@@ -147,7 +148,7 @@ unpacking b i (suc n) =
     (record { words = ws; answer = toldOf (lentEntry bothKinds i b ws); words′ = unpackedOf (lentEntry bothKinds i b ws) ws; promise = (refl, refl) })
     (length-replicate size 0) (unpacking b (i + 1) n)
 
--- A write of lists and words that pass (pack/specs/Writing, `Writable`) answers bytes; so does that of the sample (`sample-answered`).
+-- Whatever can be written (pack/specs/Writing: `Writable`) is answered with a number of bytes; so is the sample (Written: `sample-answered`).
 pub passes-written : (ks rs cs ws out : List ℕ) → Writable bothKinds ks rs cs ws (length out) → (w : WriteCall ks rs cs ws out)
     → w .answer ≡ answer.Bytes (bundleBytes (length ks) (length ws))
 unfolding writtenBy

@@ -1,7 +1,7 @@
--- The round trips: from bytes, from entries, from the lists that are lent; and the sample bundle.
+-- The round trips: from bytes, from entries, from the lists that are lent; then of the calls; and the sample bundle.
 pub mod FromBytes
 pub mod FromEntries
 pub mod FromLists
 pub mod SameBytes
-pub mod Written
 pub mod Calls
+pub mod Written
