@@ -1,15 +1,23 @@
--- The sheet of examples P1 to P11: what is asked, how the definitions answer, and the table of what they must answer.
-use mathlib.Core.Bool.{Bool, true, false, cond}
+-- The sheet of examples P1 to P11: what is asked, what an answer means in the words of the calls' contracts, and the table. That each answer of the table
+-- is right is one theorem, `sheet-holds` in proofs/Holds.
+use mathlib.Core.Path.{_≡_}
+use mathlib.Core.Bool.{cond}
 use mathlib.Core.List.{List, [], _∷_, map}
 use Prim.Native.Char.{code}
-use Prim.Native.Nat.{ℕ, _+_, _-_, _*_, _^_}
+use Prim.Native.Nat.{ℕ, _+_, _-_, _*_, _^_, _<_}
 use Prim.Native.String.{String, [] as end, _∷_ as _then_}
 use lib.Dec.{eqb}
-use Rattle.gf2.specs.Reduced.{pivots}
-use Rattle.gf2.specs.Rref.{rref}
-use Rattle.gf2.specs.Additions.{totalTo, tableAdditions, additions}
-use Rattle.gf2.specs.Inverse.{tabulate, adjoin, rightOf, same, beginsWithIdentity}
-use Rattle.images.specs.ReadOff.{hasPivot, contradictory, known, content, named}
+use lib.ListN.{length}
+use Rattle.gf2.specs.Rows.{Matrix}
+use Rattle.gf2.specs.Reduced.{ReducedForm, pivots}
+use Rattle.gf2.specs.Additions.{additions}
+use Rattle.gf2.specs.Inverse.{Inverse}
+use Rattle.images.specs.Packets.{Contradictory}
+use Rattle.refusals.specs.declared.Refusal.the-variants as refusal
+use Rattle.refusals.specs.Outcome.{numberOf}
+use Rattle.matrix.specs.Calls.{refusedAnswer}
+use Rattle.packets.specs.Solving.{Solved}
+use Rattle.packets.specs.Contradiction.{Names}
 
 -- ---- rows as they are written: column 0 first, a bar before the payload
 
@@ -21,60 +29,64 @@ unfoldable pub rows : List String → List ℕ
 unfolding written
 rows L = map written L
 
--- ---- questions and answers
+-- ---- questions, and what they are answered
 
 pub data Question : Type 0 where
   -- the reduced form of rows of that many columns, its pivots, and the additions for each of some k
-  reduction : ℕ → List ℕ → List ℕ → Question
+  reduction : (columns : ℕ) (L ks : List ℕ) → Question
   -- the inverse of n rows of n columns
-  inversion : ℕ → List ℕ → Question
-  -- of packets with n coefficients and p payload bits: are they contradictory, and what is known of each of some blocks
-  solving : ℕ → ℕ → List ℕ → List ℕ → Question
-  -- which packets are named by the contradiction call
-  naming : ℕ → ℕ → List ℕ → Question
+  inversion : (n : ℕ) (A : List ℕ) → Question
+  -- the blocks, of packets with n coefficients and p payload bits
+  solving : (n p : ℕ) (L : List ℕ) → Question
+  -- packets that contradict each other
+  naming : (n p : ℕ) (L : List ℕ) → Question
 
-pub data Block : Type 0 where
-  is : ℕ → Block
-  unknown : Block
-
-pub data Answer : Type 0 where
-  reduced : List ℕ → List ℕ → List ℕ → Answer
-  inverse : List ℕ → Answer
-  noInverse : Answer
-  met : List Block → Answer
-  -- contradictory; and what would be known of each block
-  refused : List Block → Answer
-  names : ℕ → Answer
-
-unfoldable pub block : Bool → ℕ → Block
-block true b = is b
-block false b = unknown
-
-unfoldable pub inverted : Bool → List ℕ → Answer
-inverted true X = inverse X
-inverted false X = noInverse
-
-unfoldable pub solved : Bool → List Block → Answer
-solved true bs = refused bs
-solved false bs = met bs
-
--- what the definitions of gf2 and images answer
-unfoldable pub answer : Question → Answer
-unfolding rref pivots totalTo tableAdditions tabulate same adjoin hasPivot known content named block inverted solved
-answer (reduction columns L ks) = let R = rref L in reduced R (pivots R) (map (λ k. additions k columns R) ks)
-answer (inversion n A) = let R = rref (adjoin n A) in inverted (beginsWithIdentity n R) (rightOf n R)
-answer (solving n p L js) = let R = rref L in solved (contradictory n p R) (map (λ j. block (known n R j) (content n R j)) js)
-answer (naming n p L) = names (named n p (rref (adjoin (n + p) L)))
-
--- ---- the table
-
-pub record Example : Type 0 where
-  pub question : Question
-  pub answer : Answer
+abbrev pub Answer : Question → Type 0
+Answer (reduction columns L ks) = List ℕ × List ℕ × List ℕ
+Answer (inversion n A) = List ℕ
+-- the blocks, blank where unknown; their marks, 1 where known; how many are known
+Answer (solving n p L) = List ℕ × List ℕ × ℕ
+-- packet i is named if column i is 1
+Answer (naming n p L) = ℕ
 
 infix 20 _gives_
-abbrev _gives_ : Question → Answer → Example
-q gives a = record { question = q; answer = a }
+infix 20 _refused_
+pub data Example : Type 0 where
+  _gives_ : (q : Question) → Answer q → Example
+  _refused_ : (q : Question) (number : ℕ) → Example
+
+-- ---- what an example says, in the words of the contracts
+
+-- no row has a one past the last column; a matrix to be inverted is square; there is a block, and a payload
+abbrev pub Proper : Question → Type 0
+Proper (reduction columns L ks) = Matrix (length L) columns L
+Proper (inversion n A) = Matrix n n A
+Proper (solving n p L) = (0 < n) × (0 < p) × Matrix (length L) (n + p) L
+Proper (naming n p L) = (0 < n) × (0 < p) × Matrix (length L) (n + p) L
+
+abbrev pub Gives : (q : Question) → Answer q → Type 0
+Gives (reduction columns L ks) (R, ps, added) = ReducedForm L R × (pivots R ≡ ps) × (map (λ k. additions k columns R) ks ≡ added)
+Gives (inversion n A) X = Inverse n A X
+Gives (solving n p L) (image, marks, known) = Solved n p L image marks known
+Gives (naming n p L) c = Names n p L c
+
+-- the answer beside number 10 tells of no known block
+abbrev pub Refuses : Question → ℕ → Type 0
+Refuses (reduction columns L ks) number = ⊥
+Refuses (inversion n A) number = ((X : List ℕ) → Inverse n A X → ⊥) × (number ≡ numberOf refusal.NoInverse)
+Refuses (solving n p L) number =
+    Contradictory n p L × (number ≡ numberOf refusal.Contradictory) × (refusedAnswer refusal.Contradictory .known ≡ 0)
+Refuses (naming n p L) number = ⊥
+
+abbrev pub Holds : Example → Type 0
+Holds (q gives a) = Proper q × Gives q a
+Holds (q refused number) = Proper q × Refuses q number
+
+pub data AllHold : List Example → Type 0 where
+  no-more : AllHold []
+  and : {e : Example} {es : List Example} → Holds e → AllHold es → AllHold (e ∷ es)
+
+-- ---- the table
 
 -- the packets of P6, P7, P8 and P9
 p6 : List String
@@ -93,29 +105,29 @@ unfoldable pub sheet : List Example
 unfolding rows p6 p7 p8 p9
 sheet =
     -- P1
-    (reduction 2 (rows ("11" ∷ "10" ∷ [])) (1 ∷ 2 ∷ []) gives reduced (rows ("10" ∷ "01" ∷ [])) (0 ∷ 1 ∷ []) (2 ∷ 3 ∷ []))
+    (reduction 2 (rows ("11" ∷ "10" ∷ [])) (1 ∷ 2 ∷ []) gives (rows ("10" ∷ "01" ∷ []), 0 ∷ 1 ∷ [], 2 ∷ 3 ∷ []))
     -- P2
-    ∷ (reduction 3 (rows ("011" ∷ "011" ∷ "000" ∷ [])) (2 ∷ []) gives reduced (rows ("011" ∷ "000" ∷ "000" ∷ [])) (1 ∷ []) (1 ∷ []))
+    ∷ (reduction 3 (rows ("011" ∷ "011" ∷ "000" ∷ [])) (2 ∷ []) gives (rows ("011" ∷ "000" ∷ "000" ∷ []), 1 ∷ [], 1 ∷ []))
     -- P3, for every k
-    ∷ (reduction 5 [] (1 ∷ 2 ∷ 3 ∷ 4 ∷ 5 ∷ 6 ∷ 7 ∷ 8 ∷ []) gives reduced [] [] (0 ∷ 0 ∷ 0 ∷ 0 ∷ 0 ∷ 0 ∷ 0 ∷ 0 ∷ []))
+    ∷ (reduction 5 [] (1 ∷ 2 ∷ 3 ∷ 4 ∷ 5 ∷ 6 ∷ 7 ∷ 8 ∷ []) gives ([], [], 0 ∷ 0 ∷ 0 ∷ 0 ∷ 0 ∷ 0 ∷ 0 ∷ 0 ∷ []))
     -- P4
-    ∷ (reduction 3 (rows ("110" ∷ "011" ∷ "101" ∷ [])) [] gives reduced (rows ("101" ∷ "011" ∷ "000" ∷ [])) (0 ∷ 1 ∷ []) [])
-    ∷ (inversion 3 (rows ("110" ∷ "011" ∷ "101" ∷ [])) gives noInverse)
+    ∷ (reduction 3 (rows ("110" ∷ "011" ∷ "101" ∷ [])) [] gives (rows ("101" ∷ "011" ∷ "000" ∷ []), 0 ∷ 1 ∷ [], []))
+    ∷ (inversion 3 (rows ("110" ∷ "011" ∷ "101" ∷ [])) refused 9)
     -- P5
-    ∷ (inversion 3 (rows ("110" ∷ "011" ∷ "001" ∷ [])) gives inverse (rows ("111" ∷ "011" ∷ "001" ∷ [])))
+    ∷ (inversion 3 (rows ("110" ∷ "011" ∷ "001" ∷ [])) gives rows ("111" ∷ "011" ∷ "001" ∷ []))
     -- P6
-    ∷ (solving 3 2 (rows p6) (0 ∷ 1 ∷ 2 ∷ []) gives met (unknown ∷ unknown ∷ unknown ∷ []))
+    ∷ (solving 3 2 (rows p6) gives (rows ("00" ∷ "00" ∷ "00" ∷ []), 0 ∷ 0 ∷ 0 ∷ [], 0))
     -- P7
-    ∷ (solving 3 2 (rows p7) (0 ∷ 1 ∷ 2 ∷ []) gives met (is (written "00") ∷ is (written "10") ∷ is (written "11") ∷ []))
+    ∷ (solving 3 2 (rows p7) gives (rows ("00" ∷ "10" ∷ "11" ∷ []), 1 ∷ 1 ∷ 1 ∷ [], 3))
     -- P8
-    ∷ (solving 3 2 (rows p8) (0 ∷ 1 ∷ 2 ∷ []) gives met (unknown ∷ unknown ∷ is (written "11") ∷ []))
+    ∷ (solving 3 2 (rows p8) gives (rows ("00" ∷ "00" ∷ "11" ∷ []), 0 ∷ 0 ∷ 1 ∷ [], 1))
     -- P9
-    ∷ (solving 3 2 (rows p9) (0 ∷ 1 ∷ 2 ∷ []) gives refused (unknown ∷ unknown ∷ unknown ∷ []))
-    ∷ (reduction 5 (rows p9) [] gives reduced (rows ("10110" ∷ "01100" ∷ "00001" ∷ [])) (0 ∷ 1 ∷ 4 ∷ []) [])
-    ∷ (naming 3 2 (rows p9) gives names (written "111"))
+    ∷ (solving 3 2 (rows p9) refused 10)
+    ∷ (reduction 5 (rows p9) [] gives (rows ("10110" ∷ "01100" ∷ "00001" ∷ []), 0 ∷ 1 ∷ 4 ∷ [], []))
+    ∷ (naming 3 2 (rows p9) gives written "111")
     -- P10, both halves
-    ∷ (solving 3 2 (rows ("000|01" ∷ [])) (0 ∷ 1 ∷ 2 ∷ []) gives refused (unknown ∷ unknown ∷ unknown ∷ []))
-    ∷ (solving 3 2 (rows ("000|00" ∷ [])) (0 ∷ 1 ∷ 2 ∷ []) gives met (unknown ∷ unknown ∷ unknown ∷ []))
+    ∷ (solving 3 2 (rows ("000|01" ∷ [])) refused 10)
+    ∷ (solving 3 2 (rows ("000|00" ∷ [])) gives (rows ("00" ∷ "00" ∷ "00" ∷ []), 0 ∷ 0 ∷ 0 ∷ [], 0))
     -- P11: ones at 1 and 70, and at 1 and 71
-    ∷ (reduction 72 ((2 ^ 1 + 2 ^ 70) ∷ (2 ^ 1 + 2 ^ 71) ∷ []) [] gives reduced ((2 ^ 1 + 2 ^ 71) ∷ (2 ^ 70 + 2 ^ 71) ∷ []) (1 ∷ 70 ∷ []) [])
+    ∷ (reduction 72 ((2 ^ 1 + 2 ^ 70) ∷ (2 ^ 1 + 2 ^ 71) ∷ []) [] gives ((2 ^ 1 + 2 ^ 71) ∷ (2 ^ 70 + 2 ^ 71) ∷ [], 1 ∷ 70 ∷ [], []))
     ∷ []
