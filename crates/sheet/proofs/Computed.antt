@@ -1,8 +1,8 @@
--- Every question's answer can be computed: it is read off the computed reduced form, and what is read off any reduced form is what the contracts speak of.
+-- The answer to any question can be computed: it is read off the computed reduced form, and what is read off a reduced form is what the contracts speak of.
 use mathlib.Core.Path.{_≡_, refl, sym, subst}
 use mathlib.Core.Bool.{Bool, true, false, _&&_, not}
 use mathlib.Core.List.{List, map}
-use Prim.Native.Nat.{ℕ, _+_, _^_, _<_}
+use Prim.Native.Nat.{ℕ, _+_, _<_}
 use borrow.Author.Tests.{eqb-true, eqb-false, ltb-true, not-true}
 use lib.Dec.{T, eqb, ltb}
 use lib.ListN.{length}
@@ -24,7 +24,7 @@ use Rattle.sheet.specs.Sheet.{Question, reduction, inversion, solving, n
 
 -- ---- the computed answer
 
--- refused with that number where the test fails
+-- given where the test holds, else refused with that number
 unfoldable pub givenIf : Bool → (q : Question) → Answer q → ℕ → Example
 givenIf true q a number = q gives a
 givenIf false q a number = q refused number
@@ -46,7 +46,7 @@ arePackets n p L = ltb 0 n && (ltb 0 p && narrow (n + p) L)
 
 -- it is proper, and where packets are to be named some are
 unfoldable pub answerable : Question → Bool
-unfolding rref tabulate adjoin named narrow
+unfolding rref adjoin named narrow
 answerable (reduction columns L ks) = narrow columns L
 answerable (inversion n A) = eqb (length A) n && narrow n A
 answerable (solving n p L) = arePackets n p L

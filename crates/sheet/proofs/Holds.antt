@@ -1,6 +1,6 @@
 -- The sheet holds: the computed answer to each of its questions is right, and it is the one that stands in the table. The checker computes them.
 use mathlib.Core.Path.{_≡_, refl, subst}
-use mathlib.Core.Bool.{Bool, true, false, _&&_}
+use mathlib.Core.Bool.{Bool, true, _&&_}
 use mathlib.Core.List.{List, [], _∷_, map}
 use Rattle.sheet.specs.Sheet.{Question, Example, _gives_, _refused_, AllHold, no-more, and, sheet}
 use Rattle.sheet.proofs.Computed.{answered, answerable, both, answer-holds}

@@ -29,7 +29,7 @@ unfoldable pub rows : List String → List ℕ
 unfolding written
 rows L = map written L
 
--- ---- questions, and what they are answered
+-- ---- questions and answers
 
 pub data Question : Type 0 where
   -- the reduced form of rows of that many columns, its pivots, and the additions for each of some k
@@ -42,6 +42,7 @@ pub data Question : Type 0 where
   naming : (n p : ℕ) (L : List ℕ) → Question
 
 abbrev pub Answer : Question → Type 0
+-- the reduced form; its pivots; the additions, k by k
 Answer (reduction columns L ks) = List ℕ × List ℕ × List ℕ
 Answer (inversion n A) = List ℕ
 -- the blocks, blank where unknown; their marks, 1 where known; how many are known
@@ -70,7 +71,7 @@ Gives (inversion n A) X = Inverse n A X
 Gives (solving n p L) (image, marks, known) = Solved n p L image marks known
 Gives (naming n p L) c = Names n p L c
 
--- the answer beside number 10 tells of no known block
+-- 9: there is no inverse. 10: no image meets the packets, and the answer beside the number has no known block. No other proper question is refused.
 abbrev pub Refuses : Question → ℕ → Type 0
 Refuses (reduction columns L ks) number = ⊥
 Refuses (inversion n A) number = ((X : List ℕ) → Inverse n A X → ⊥) × (number ≡ numberOf refusal.NoInverse)
