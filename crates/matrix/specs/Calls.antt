@@ -1,5 +1,5 @@
 -- What the row view and the reduction promise.
-use mathlib.Core.Path.{_≡_}
+use mathlib.Core.Path.{_≡_, refl}
 use mathlib.Core.List.{List, []}
 use Prim.Native.Nat.{ℕ, _-_, _*_, _^_, _≤_, _<_}
 use lib.ListN.{length, replicate}
@@ -30,6 +30,10 @@ shownFrom (Refused r) i w = 0
 
 abbrev pub rowPlace : ℕ → ℕ → ℕ → ℕ → ℕ
 rowPlace rows columns i len = shownFrom (viewChecks rows columns len i) i (wordsOf columns)
+
+-- the second of two rows of 65 columns begins at word 2
+pub second-place : rowPlace 2 65 1 4 ≡ 2
+second-place = refl
 
 -- ---- the answer of reduction and of solving
 
