@@ -1,10 +1,10 @@
 -- Refused; or the matrix is reduced beside an identity, and its right half is read off, or there is none.
-use mathlib.Core.Path.{refl, subst}
+use mathlib.Core.Path.{_≡_}
 use Prim.Native.Nat.{_≤_}
 use native.Mathlib.Nat.{mul-le-mul}
 use Rattle.refusals.specs.declared.Refusal.the-variants.{NoInverse}
 use Rattle.refusals.specs.declared.Outcome.the-variants.{Done, Refused}
-use Rattle.readoff.specs.declared.Reading.{Reading}
+use Rattle.readoff.specs.declared.Reading.the-variants as reading
 use Rattle.readoff.specs.ReadOff.{halved}
 use Rattle.inverse.proofs.Calls.{invert-refused, rows-few, columns-few, invert-found, invert-missing, invert-unfit}
 use denote.Ref.{now}
@@ -29,18 +29,24 @@ right-half-requires : tie.Need-right-half-requires
 right-half-requires c κs = search needs
 
 add-words : tie.Need-add-words
-add-words c = let g = c .before .before .before .before .before .before .before .before .before .before .before .before .before .before .before .before .args in omega (arith, rows-few (g .rows) (g .columns) (g .k) (now (g .m)) (now (g .result)) (now (g .room)) (c .before .before .before .before .before .before .before .before .before .before .before .before .inverse .result) (c .before .before .before .before .before .before .before .before .before .before .before .before .inverse .ensures) (c .before .before .before .before .before .before .before .before .before .before .enum-told .given .1), columns-few (g .rows) (g .columns) (g .k) (now (g .m)) (now (g .result)) (now (g .room)) (c .before .before .before .before .before .before .before .before .before .before .before .before .inverse .result) (c .before .before .before .before .before .before .before .before .before .before .before .before .inverse .ensures) (c .before .before .before .before .before .before .before .before .before .before .enum-told .given .1))
+add-words c =
+    let b = c .before .before .before .before .before .before .before .before .before .before .before .before in
+    let g = b .before .before .before .before .args in
+    let few = rows-few (g .rows) (g .columns) (g .k) (now (g .m)) (now (g .result)) (now (g .room)) (b .inverse .result) (search needs) (search needs) in
+    let square = columns-few (g .rows) (g .columns) (g .k) (now (g .m)) (now (g .result)) (now (g .room)) (b .inverse .result) (search needs) (search needs) in
+    omega arith
 
 words-requires : tie.Need-words-requires
 words-requires c κs = search needs
 
 mul-blank : tie.Need-mul-blank
 mul-blank c =
-    let g = c .before .before .before .before .before .before .before .before .before .before .before .before .before .before .before .before .before .args in
-    let r = rows-few (g .rows) (g .columns) (g .k) (now (g .m)) (now (g .result)) (now (g .room)) (c .before .before .before .before .before .before .before .before .before .before .before .before .before .inverse .result) (c .before .before .before .before .before .before .before .before .before .before .before .before .before .inverse .ensures) (c .before .before .before .before .before .before .before .before .before .before .before .enum-told .given .1) in
-    let s = columns-few (g .rows) (g .columns) (g .k) (now (g .m)) (now (g .result)) (now (g .room)) (c .before .before .before .before .before .before .before .before .before .before .before .before .before .inverse .result) (c .before .before .before .before .before .before .before .before .before .before .before .before .before .inverse .ensures) (c .before .before .before .before .before .before .before .before .before .before .before .enum-told .given .1) in
-    let w : c .words .result ≤ 16 = omega (arith, c .words .ensures) in
-    omega (arith, mul-le-mul r w)
+    let b = c .before .before .before .before .before .before .before .before .before .before .before .before .before in
+    let g = b .before .before .before .before .args in
+    let few = rows-few (g .rows) (g .columns) (g .k) (now (g .m)) (now (g .result)) (now (g .room)) (b .inverse .result) (search needs) (search needs) in
+    let square = columns-few (g .rows) (g .columns) (g .k) (now (g .m)) (now (g .result)) (now (g .room)) (b .inverse .result) (search needs) (search needs) in
+    let w : c .words .result ≤ 16 = omega arith in
+    omega (arith, mul-le-mul few w)
 
 blank-requires : tie.Need-blank-requires
 blank-requires c κs = search needs
@@ -55,7 +61,11 @@ enum-told-4 : tie.Need-enum-told-4
 enum-told-4 c = search needs
 
 returns : tie.Need-returns
-returns c = let g = c .before .before .before .before .before .before .before .args in invert-refused (g .rows) (g .columns) (g .k) (now (g .m)) (now (g .result)) (now (g .room)) (c .before .before .before .inverse .result) (c .before .before .before .inverse .ensures) (Refused (c .before .o .given .0 .0)) (c .before .o .given .1) refl
+returns c =
+    let b = c .before .before .before in
+    let g = b .before .before .before .before .args in
+    let x = c .before .o .given .0 .0 in
+    invert-refused (g .rows) (g .columns) (g .k) (now (g .m)) (now (g .result)) (now (g .room)) (b .inverse .result) (search needs) {x = x} (Refused x) (search needs) (search needs)
 
 same-length : tie.Need-same-length
 same-length c = search needs
@@ -65,9 +75,16 @@ same-length-2 c = search needs
 
 returns-2 : tie.Need-returns-2
 returns-2 c =
-    let g = c .before .before .before .before .before .before .before .before .before .before .before .before .before .before .before .before .before .before .before .before .before .before .args in
-    invert-found (g .rows) (g .columns) (g .k) (now (g .m)) (now (g .result)) (now (g .room)) (c .before .before .before .before .before .before .before .before .before .before .before .before .before .before .before .before .before .before .inverse .result) (c .before .before .before .before .before .before .before .before .before .before .before .before .before .before .before .before .before .before .inverse .ensures) (c .before .before .before .before .before .before .before .before .before .before .before .before .before .before .before .before .enum-told .given .1) (c .before .before .before .before .before .before .before .before .before .before .before .before .before .before .reduce .last .0) (c .before .before .before .before .before .before .before .before .before .right-half .last .1 .1 .0) (c .before .before .before .before .blank .last .0) (c .before .before .before .before .before .before .before .before .before .before .before .before .before .before .reduce .result) (c .before .before .before .before .before .words .result) (c .before .before .before .before .before .before .before .before .before .before .before .before .before .before .reduce .ensures) (search needs) (c .before .before .before .before .before .words .ensures) (c .before .before .before .before .blank .ensures)
-    (subst (λ (x : Reading). halved x (g .rows) (c .before .before .before .before .before .before .before .before .before .before .before .before .before .before .reduce .last .0) (now (g .result)) (c .before .before .before .before .before .before .before .before .before .right-half .last .1 .1 .0)) (c .enum-told2 .given .1) (c .before .before .before .before .before .before .before .before .before .right-half .ensures)) Done refl
+    let z = c .before .before .before .before in
+    let h = z .before .before .before .before .before in
+    let d = h .before .before .before .before .before in
+    let b = d .before .before .before .before in
+    let g = b .before .before .before .before .args in
+    let told : h .right-half .result ≡ reading.Found = search needs in
+    let read : halved (h .right-half .result) (g .rows) (d .reduce .last .0) (now (g .result)) (h .right-half .last .1 .1 .0) = search needs in
+    invert-found (g .rows) (g .columns) (g .k) (now (g .m)) (now (g .result)) (now (g .room)) (b .inverse .result) (search needs) (search needs) (d .reduce .last .0)
+    (h .right-half .last .1 .1 .0) (z .blank .last .0) (d .reduce .result) (z .before .words .result) (search needs) (search needs) (search needs) (search needs)
+    (rw told at read) Done (search needs)
 
 same-length-3 : tie.Need-same-length-3
 same-length-3 c = search needs
@@ -77,9 +94,16 @@ same-length-4 c = search needs
 
 returns-3 : tie.Need-returns-3
 returns-3 c =
-    let g = c .before .before .before .before .before .before .before .before .before .before .before .before .before .before .before .before .before .before .before .before .before .before .args in
-    invert-missing (g .rows) (g .columns) (g .k) (now (g .m)) (now (g .result)) (now (g .room)) (c .before .before .before .before .before .before .before .before .before .before .before .before .before .before .before .before .before .before .inverse .result) (c .before .before .before .before .before .before .before .before .before .before .before .before .before .before .before .before .before .before .inverse .ensures) (c .before .before .before .before .before .before .before .before .before .before .before .before .before .before .before .before .enum-told .given .1) (c .before .before .before .before .before .before .before .before .before .before .before .before .before .before .reduce .last .0) (c .before .before .before .before .before .before .before .before .before .right-half .last .1 .1 .0) (c .before .before .before .before .blank .last .0) (c .before .before .before .before .before .before .before .before .before .before .before .before .before .before .reduce .result) (c .before .before .before .before .before .words .result) (c .before .before .before .before .before .before .before .before .before .before .before .before .before .before .reduce .ensures) (search needs) (c .before .before .before .before .before .words .ensures) (c .before .before .before .before .blank .ensures)
-    (subst (λ (x : Reading). halved x (g .rows) (c .before .before .before .before .before .before .before .before .before .before .before .before .before .before .reduce .last .0) (now (g .result)) (c .before .before .before .before .before .before .before .before .before .right-half .last .1 .1 .0)) (c .enum-told3 .given .1) (c .before .before .before .before .before .before .before .before .before .right-half .ensures)) (Refused NoInverse) refl
+    let z = c .before .before .before .before in
+    let h = z .before .before .before .before .before in
+    let d = h .before .before .before .before .before in
+    let b = d .before .before .before .before in
+    let g = b .before .before .before .before .args in
+    let told : h .right-half .result ≡ reading.Missing = search needs in
+    let read : halved (h .right-half .result) (g .rows) (d .reduce .last .0) (now (g .result)) (h .right-half .last .1 .1 .0) = search needs in
+    invert-missing (g .rows) (g .columns) (g .k) (now (g .m)) (now (g .result)) (now (g .room)) (b .inverse .result) (search needs) (search needs) (d .reduce .last .0)
+    (h .right-half .last .1 .1 .0) (z .blank .last .0) (d .reduce .result) (z .before .words .result) (search needs) (search needs) (search needs) (search needs)
+    (rw told at read) (Refused NoInverse) (search needs)
 
 same-length-5 : tie.Need-same-length-5
 same-length-5 c = search needs
@@ -89,9 +113,16 @@ same-length-6 c = search needs
 
 returns-4 : tie.Need-returns-4
 returns-4 c =
-    let g = c .before .before .before .before .before .before .before .before .before .before .before .before .before .before .before .before .before .before .before .before .before .before .args in
-    invert-unfit (g .rows) (g .columns) (g .k) (now (g .m)) (now (g .result)) (now (g .room)) (c .before .before .before .before .before .before .before .before .before .before .before .before .before .before .before .before .before .before .inverse .result) (c .before .before .before .before .before .before .before .before .before .before .before .before .before .before .before .before .before .before .inverse .ensures) (c .before .before .before .before .before .before .before .before .before .before .before .before .before .before .before .before .enum-told .given .1) (c .before .before .before .before .before .before .before .before .before .before .before .before .before .before .reduce .last .0) (c .before .before .before .before .before .before .before .before .before .right-half .last .1 .1 .0) (c .before .before .before .before .blank .last .0) (c .before .before .before .before .before .before .before .before .before .before .before .before .before .before .reduce .result) (c .before .before .before .before .before .words .result) (c .before .before .before .before .before .before .before .before .before .before .before .before .before .before .reduce .ensures) (search needs) (c .before .before .before .before .before .words .ensures) (c .before .before .before .before .blank .ensures)
-    (subst (λ (x : Reading). halved x (g .rows) (c .before .before .before .before .before .before .before .before .before .before .before .before .before .before .reduce .last .0) (now (g .result)) (c .before .before .before .before .before .before .before .before .before .right-half .last .1 .1 .0)) (c .enum-told4 .given .1) (c .before .before .before .before .before .before .before .before .before .right-half .ensures)) (Refused NoInverse)
+    let z = c .before .before .before .before in
+    let h = z .before .before .before .before .before in
+    let d = h .before .before .before .before .before in
+    let b = d .before .before .before .before in
+    let g = b .before .before .before .before .args in
+    let told : h .right-half .result ≡ reading.Unfit = search needs in
+    let read : halved (h .right-half .result) (g .rows) (d .reduce .last .0) (now (g .result)) (h .right-half .last .1 .1 .0) = search needs in
+    invert-unfit (g .rows) (g .columns) (g .k) (now (g .m)) (now (g .result)) (now (g .room)) (b .inverse .result) (search needs) (search needs) (d .reduce .last .0)
+    (h .right-half .last .1 .1 .0) (z .blank .last .0) (d .reduce .result) (z .before .words .result) (search needs) (search needs) (search needs) (search needs)
+    (rw told at read) (Refused NoInverse)
 
 pub invert-spec : {M : Type 1} → statement M
 invert-spec =

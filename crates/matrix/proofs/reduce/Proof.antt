@@ -32,7 +32,11 @@ same-length : tie.Need-same-length
 same-length c = search needs
 
 returns : tie.Need-returns
-returns c = let g = c .before .before .before .before .before .before .before .before .args in reduce-refused (g .rows) (g .columns) (g .k) (now (g .m)) (now (g .room)) (c .before .before .before .before .reduction .result) (c .refused .result) (c .before .before .before .before .reduction .ensures) (c .before .before .o .given .1) (c .refused .ensures)
+returns c =
+    let b = c .before .before .before .before in
+    let g = b .before .before .before .before .args in
+    reduce-refused (g .rows) (g .columns) (g .k) (now (g .m)) (now (g .room)) (b .reduction .result) {x = c .before .before .o .given .0 .0} (c .refused .result)
+    (search needs) (search needs) (search needs)
 
 same-length-2 : tie.Need-same-length-2
 same-length-2 c = search needs
@@ -42,9 +46,12 @@ same-length-3 c = search needs
 
 returns-2 : tie.Need-returns-2
 returns-2 c =
-    let g = c .before .before .before .before .before .before .before .before .before .before .before .before .before .before .before .before .args in
-    reduce-done (g .rows) (g .columns) (g .k) (now (g .m)) (now (g .room)) (c .before .before .before .before .before .before .before .before .before .before .before .before .reduction .result) (c .before .before .before .before .before .before .eliminate .result .done) (c .before .before .before .before .before .before .eliminate .result .rank) (c .before .before .before .before .before .before .eliminate .result .additions) (replicate 512 65535) (c .before .before .before .before .before .before .eliminate .last .0) (c .before .before .before .before .before .before .eliminate .last .1 .0) (c .before .before .before .before .before .before .eliminate .last .1 .1 .1 .1 .1 .0) (c .told .result)
-    (c .before .before .before .before .before .before .before .before .before .before .before .before .reduction .ensures) (c .before .before .before .before .before .before .before .before .before .before .enum-told .given .1) (length-replicate {A = ℕ} 512 65535) (search needs) (c .before .before .before .before .before .before .eliminate .ensures) (c .told .ensures)
+    let e = c .before .before .before .before .before .before in
+    let b = e .before .before .before .before .before .before in
+    let g = b .before .before .before .before .args in
+    reduce-done (g .rows) (g .columns) (g .k) (now (g .m)) (now (g .room)) (b .reduction .result) (e .eliminate .result .done) (e .eliminate .result .rank)
+    (e .eliminate .result .additions) (replicate 512 65535) (e .eliminate .last .0) (e .eliminate .last .1 .0) (e .eliminate .last .1 .1 .1 .1 .1 .0) (c .told .result)
+    (search needs) (search needs) (length-replicate {A = ℕ} 512 65535) (search needs) (search needs) (search needs)
 
 pub reduce-spec : {M : Type 1} → statement M
 reduce-spec =

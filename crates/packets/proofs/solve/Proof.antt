@@ -1,8 +1,8 @@
 -- Refused; or the packets are reduced, and the blocks are read off, or a contradiction is seen.
-use mathlib.Core.Path.{subst}
+use mathlib.Core.Path.{_≡_}
 use Prim.Native.Nat.{ℕ}
 use lib.ListN.{replicate, length-replicate}
-use Rattle.readoff.specs.declared.Solved.{Solved}
+use Rattle.readoff.specs.declared.Solved.the-variants as read
 use Rattle.readoff.specs.ReadOff.{solving}
 use Rattle.packets.proofs.Calls.{solve-refused, solve-known, solve-contradictory, solve-unfit}
 use denote.Ref.{now}
@@ -53,7 +53,11 @@ same-length : tie.Need-same-length
 same-length c = search needs
 
 returns : tie.Need-returns
-returns c = let g = c .before .before .before .before .before .before .before .before .before .before .args in solve-refused (g .rows) (g .columns) (g .n) (g .k) (now (g .m)) (now (g .image)) (now (g .marks)) (now (g .room)) (c .before .before .before .before .solving .result) (c .before .before .before .before .solving .ensures) (c .refused .result) (c .before .before .o .given .1) (c .refused .ensures)
+returns c =
+    let b = c .before .before .before .before in
+    let g = b .before .before .before .before .before .before .args in
+    solve-refused (g .rows) (g .columns) (g .n) (g .k) (now (g .m)) (now (g .image)) (now (g .marks)) (now (g .room)) (b .solving .result) (search needs)
+    {x = c .before .before .o .given .0 .0} (c .refused .result) (search needs) (search needs)
 
 same-length-2 : tie.Need-same-length-2
 same-length-2 c = search needs
@@ -69,10 +73,17 @@ same-length-5 c = search needs
 
 returns-2 : tie.Need-returns-2
 returns-2 c =
-    let g = c .before .before .before .before .before .before .before .before .before .before .before .before .before .before .before .before .before .before .before .before .before .before .before .before .before .before .before .before .before .args in
-    solve-known (g .rows) (g .columns) (g .n) (g .k) (now (g .m)) (now (g .image)) (now (g .marks)) (now (g .room)) (c .before .before .before .before .before .before .before .before .before .before .before .before .before .before .before .before .before .before .before .before .before .before .before .solving .result) (c .before .before .before .before .before .before .before .before .before .before .before .before .before .before .before .before .before .before .before .before .before .before .before .solving .ensures) (c .before .before .before .before .before .before .before .before .before .before .before .before .before .before .before .before .before .before .before .before .before .enum-told .given .1) (c .before .before .before .before .before .before .before .before .before .before .before .before .before .before .before .before .before .eliminate .result .done) (c .before .before .before .before .before .before .before .before .before .before .before .before .before .before .before .before .before .eliminate .result .rank) (c .before .before .before .before .before .before .before .before .before .before .before .before .before .before .before .before .before .eliminate .result .additions) (replicate 512 65535) (c .before .before .before .before .before .before .before .before .before .before .before .before .before .before .before .before .before .eliminate .last .0) (c .before .before .before .before .before .before .before .before .before .before .before .before .before .before .before .before .before .eliminate .last .1 .0) (c .before .before .before .before .before .before .before .before .before .before .before .before .before .before .before .before .before .eliminate .last .1 .1 .1 .1 .1 .0) (length-replicate {A = ℕ} 512 65535) (search needs) (search needs) (c .before .before .before .before .before .before .before .before .before .before .before .before .before .before .before .before .before .eliminate .ensures)
-    (c .before .before .before .before .before .before .before .before .solution .last .1 .1 .1 .1 .0) (c .before .before .before .before .before .before .before .before .solution .last .1 .1 .1 .1 .1 .0) (c .told .result) (c .before .before .s .given .0 .0)
-    (subst (λ (x : Solved). solving x (g .rows) (g .columns) (g .n) (c .before .before .before .before .before .before .before .before .before .before .before .before .before .before .before .before .before .eliminate .last .0) (now (g .image)) (now (g .marks)) (c .before .before .before .before .before .before .before .before .solution .last .1 .1 .1 .1 .0) (c .before .before .before .before .before .before .before .before .solution .last .1 .1 .1 .1 .1 .0)) (c .before .before .s .given .1) (c .before .before .before .before .before .before .before .before .solution .ensures)) (c .told .ensures)
+    let s = c .before .before .before .before .before .before .before .before in
+    let e = s .before .before .before .before .before .before .before .before .before in
+    let b = e .before .before .before .before .before .before in
+    let g = b .before .before .before .before .before .before .args in
+    let told : s .solution .result ≡ read.Known (c .before .before .s .given .0 .0) = search needs in
+    let read : solving (s .solution .result) (g .rows) (g .columns) (g .n) (e .eliminate .last .0) (now (g .image)) (now (g .marks)) (s .solution .last .1 .1 .1 .1 .0)
+    (s .solution .last .1 .1 .1 .1 .1 .0) = search needs in
+    solve-known (g .rows) (g .columns) (g .n) (g .k) (now (g .m)) (now (g .image)) (now (g .marks)) (now (g .room)) (b .solving .result) (search needs) (search needs)
+    (e .eliminate .result .done) (e .eliminate .result .rank) (e .eliminate .result .additions) (replicate 512 65535) (e .eliminate .last .0) (e .eliminate .last .1 .0)
+    (e .eliminate .last .1 .1 .1 .1 .1 .0) (length-replicate {A = ℕ} 512 65535) (search needs) (search needs) (search needs)
+    (s .solution .last .1 .1 .1 .1 .0) (s .solution .last .1 .1 .1 .1 .1 .0) (c .told .result) (c .before .before .s .given .0 .0) (rw told at read) (search needs)
 
 same-length-6 : tie.Need-same-length-6
 same-length-6 c = search needs
@@ -88,10 +99,17 @@ same-length-9 c = search needs
 
 returns-3 : tie.Need-returns-3
 returns-3 c =
-    let g = c .before .before .before .before .before .before .before .before .before .before .before .before .before .before .before .before .before .before .before .before .before .before .before .before .before .before .before .before .args in
-    solve-contradictory (g .rows) (g .columns) (g .n) (g .k) (now (g .m)) (now (g .image)) (now (g .marks)) (now (g .room)) (c .before .before .before .before .before .before .before .before .before .before .before .before .before .before .before .before .before .before .before .before .before .before .solving .result) (c .before .before .before .before .before .before .before .before .before .before .before .before .before .before .before .before .before .before .before .before .before .before .solving .ensures) (c .before .before .before .before .before .before .before .before .before .before .before .before .before .before .before .before .before .before .before .before .enum-told .given .1) (c .before .before .before .before .before .before .before .before .before .before .before .before .before .before .before .before .eliminate .result .done) (c .before .before .before .before .before .before .before .before .before .before .before .before .before .before .before .before .eliminate .result .rank) (c .before .before .before .before .before .before .before .before .before .before .before .before .before .before .before .before .eliminate .result .additions) (replicate 512 65535) (c .before .before .before .before .before .before .before .before .before .before .before .before .before .before .before .before .eliminate .last .0) (c .before .before .before .before .before .before .before .before .before .before .before .before .before .before .before .before .eliminate .last .1 .0) (c .before .before .before .before .before .before .before .before .before .before .before .before .before .before .before .before .eliminate .last .1 .1 .1 .1 .1 .0) (length-replicate {A = ℕ} 512 65535) (search needs) (search needs) (c .before .before .before .before .before .before .before .before .before .before .before .before .before .before .before .before .eliminate .ensures)
-    (c .before .before .before .before .before .before .before .solution .last .1 .1 .1 .1 .0) (c .before .before .before .before .before .before .before .solution .last .1 .1 .1 .1 .1 .0) (c .refused2 .result)
-    (subst (λ (x : Solved). solving x (g .rows) (g .columns) (g .n) (c .before .before .before .before .before .before .before .before .before .before .before .before .before .before .before .before .eliminate .last .0) (now (g .image)) (now (g .marks)) (c .before .before .before .before .before .before .before .solution .last .1 .1 .1 .1 .0) (c .before .before .before .before .before .before .before .solution .last .1 .1 .1 .1 .1 .0)) (c .before .enum-told2 .given .1) (c .before .before .before .before .before .before .before .solution .ensures)) (c .refused2 .ensures)
+    let s = c .before .before .before .before .before .before .before in
+    let e = s .before .before .before .before .before .before .before .before .before in
+    let b = e .before .before .before .before .before .before in
+    let g = b .before .before .before .before .before .before .args in
+    let told : s .solution .result ≡ read.Contradictory = search needs in
+    let read : solving (s .solution .result) (g .rows) (g .columns) (g .n) (e .eliminate .last .0) (now (g .image)) (now (g .marks)) (s .solution .last .1 .1 .1 .1 .0)
+    (s .solution .last .1 .1 .1 .1 .1 .0) = search needs in
+    solve-contradictory (g .rows) (g .columns) (g .n) (g .k) (now (g .m)) (now (g .image)) (now (g .marks)) (now (g .room)) (b .solving .result) (search needs) (search needs)
+    (e .eliminate .result .done) (e .eliminate .result .rank) (e .eliminate .result .additions) (replicate 512 65535) (e .eliminate .last .0) (e .eliminate .last .1 .0)
+    (e .eliminate .last .1 .1 .1 .1 .1 .0) (length-replicate {A = ℕ} 512 65535) (search needs) (search needs) (search needs)
+    (s .solution .last .1 .1 .1 .1 .0) (s .solution .last .1 .1 .1 .1 .1 .0) (c .refused2 .result) (rw told at read) (search needs)
 
 same-length-10 : tie.Need-same-length-10
 same-length-10 c = search needs
@@ -107,10 +125,17 @@ same-length-13 c = search needs
 
 returns-4 : tie.Need-returns-4
 returns-4 c =
-    let g = c .before .before .before .before .before .before .before .before .before .before .before .before .before .before .before .before .before .before .before .before .before .before .before .before .before .before .before .before .args in
-    solve-unfit (g .rows) (g .columns) (g .n) (g .k) (now (g .m)) (now (g .image)) (now (g .marks)) (now (g .room)) (c .before .before .before .before .before .before .before .before .before .before .before .before .before .before .before .before .before .before .before .before .before .before .solving .result) (c .before .before .before .before .before .before .before .before .before .before .before .before .before .before .before .before .before .before .before .before .before .before .solving .ensures) (c .before .before .before .before .before .before .before .before .before .before .before .before .before .before .before .before .before .before .before .before .enum-told .given .1) (c .before .before .before .before .before .before .before .before .before .before .before .before .before .before .before .before .eliminate .result .done) (c .before .before .before .before .before .before .before .before .before .before .before .before .before .before .before .before .eliminate .result .rank) (c .before .before .before .before .before .before .before .before .before .before .before .before .before .before .before .before .eliminate .result .additions) (replicate 512 65535) (c .before .before .before .before .before .before .before .before .before .before .before .before .before .before .before .before .eliminate .last .0) (c .before .before .before .before .before .before .before .before .before .before .before .before .before .before .before .before .eliminate .last .1 .0) (c .before .before .before .before .before .before .before .before .before .before .before .before .before .before .before .before .eliminate .last .1 .1 .1 .1 .1 .0) (length-replicate {A = ℕ} 512 65535) (search needs) (search needs) (c .before .before .before .before .before .before .before .before .before .before .before .before .before .before .before .before .eliminate .ensures)
-    (c .before .before .before .before .before .before .before .solution .last .1 .1 .1 .1 .0) (c .before .before .before .before .before .before .before .solution .last .1 .1 .1 .1 .1 .0) (c .refused3 .result)
-    (subst (λ (x : Solved). solving x (g .rows) (g .columns) (g .n) (c .before .before .before .before .before .before .before .before .before .before .before .before .before .before .before .before .eliminate .last .0) (now (g .image)) (now (g .marks)) (c .before .before .before .before .before .before .before .solution .last .1 .1 .1 .1 .0) (c .before .before .before .before .before .before .before .solution .last .1 .1 .1 .1 .1 .0)) (c .before .enum-told3 .given .1) (c .before .before .before .before .before .before .before .solution .ensures))
+    let s = c .before .before .before .before .before .before .before in
+    let e = s .before .before .before .before .before .before .before .before .before in
+    let b = e .before .before .before .before .before .before in
+    let g = b .before .before .before .before .before .before .args in
+    let told : s .solution .result ≡ read.Unfit = search needs in
+    let read : solving (s .solution .result) (g .rows) (g .columns) (g .n) (e .eliminate .last .0) (now (g .image)) (now (g .marks)) (s .solution .last .1 .1 .1 .1 .0)
+    (s .solution .last .1 .1 .1 .1 .1 .0) = search needs in
+    solve-unfit (g .rows) (g .columns) (g .n) (g .k) (now (g .m)) (now (g .image)) (now (g .marks)) (now (g .room)) (b .solving .result) (search needs) (search needs)
+    (e .eliminate .result .done) (e .eliminate .result .rank) (e .eliminate .result .additions) (replicate 512 65535) (e .eliminate .last .0) (e .eliminate .last .1 .0)
+    (e .eliminate .last .1 .1 .1 .1 .1 .0) (length-replicate {A = ℕ} 512 65535) (search needs) (search needs) (search needs)
+    (s .solution .last .1 .1 .1 .1 .0) (s .solution .last .1 .1 .1 .1 .1 .0) (c .refused3 .result) (rw told at read)
 
 pub solve-spec : {M : Type 1} → statement M
 solve-spec =
