@@ -2,6 +2,7 @@
 //! guards around them. An input that the model refuses is tried just the same.
 
 use crate::checks::{self, Numbers};
+use crate::count;
 use crate::guarded::Guarded;
 use crate::plain::{self, Answer, Bits};
 use crate::raw;
@@ -41,6 +42,7 @@ pub fn row_view(numbers: Numbers, matrix: &[u64], i: usize) -> Result<raw::Row, 
     };
     same(&format!("view of row {i}, {numbers:?}"), got, expected)?;
     lent.holds("matrix", matrix)?;
+    count::one();
     Ok(got)
 }
 
@@ -73,6 +75,7 @@ impl Reduce {
         same(&format!("reduction, {x:?}"), seen(got), answer.clone())?;
         matrix.holds(&format!("matrix of reduction, {x:?}"), &matrix_after)?;
         room.holds(&format!("room of reduction, {x:?}"), &room_after)?;
+        count::one();
         Ok((answer, matrix_after))
     }
 }
@@ -113,6 +116,7 @@ impl Invert {
         matrix.holds(&format!("matrix of inverse, {x:?}"), &self.matrix)?;
         result.holds(&format!("result of inverse, {x:?}"), &result_after)?;
         room.holds(&format!("room of inverse, {x:?}"), &room_after)?;
+        count::one();
         let stands = (got == 0).then(|| plain::to_bits(result.content(), x.rows, x.columns));
         Ok((got, stands))
     }
@@ -146,9 +150,9 @@ impl Solve {
             return (Solved { answer, packets: self.packets.clone(), image, marks }, self.room.clone());
         }
         let bits = plain::to_bits(&self.packets, x.rows, x.columns);
-        let packets = plain::to_words(&plain::reduced(&bits, x.columns).0, x.columns);
-        let solved = match plain::solved(&bits, x.columns, x.n, x.k) {
-            Some((answer, image, marks)) => Solved { answer, packets, image, marks },
+        let (packets, told) = plain::solved(&bits, x.columns, x.n, x.k);
+        let solved = match told {
+            Some((answer, marks, image)) => Solved { answer, packets, image, marks },
             None => Solved { answer: Answer::refused(10), packets, image, marks },
         };
         (solved, cleared(&self.room, x.reduce_room()))
@@ -169,6 +173,7 @@ impl Solve {
         image.holds(&format!("image of solving, {x:?}"), &solved.image)?;
         marks.holds(&format!("marks of solving, {x:?}"), &solved.marks)?;
         room.holds(&format!("room of solving, {x:?}"), &room_after)?;
+        count::one();
         Ok(solved)
     }
 }
@@ -209,6 +214,7 @@ impl Contradict {
         packets.holds(&format!("packets of contradiction, {x:?}"), &self.packets)?;
         names.holds(&format!("names of contradiction, {x:?}"), &names_after)?;
         room.holds(&format!("room of contradiction, {x:?}"), &room_after)?;
+        count::one();
         Ok((got, names.content().to_vec()))
     }
 }

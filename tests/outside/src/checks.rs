@@ -16,7 +16,7 @@ fn wide(number: usize) -> u128 {
 }
 
 fn width(columns: u128) -> u128 {
-    columns.div_ceil(64)
+    (columns + 63) / 64
 }
 
 fn table(k: usize) -> u128 {

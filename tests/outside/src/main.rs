@@ -1,17 +1,24 @@
 //! Tests from outside: the archive's calls and the program `reduce` against a plain model, over inputs from fixed seeds.
-//! `outside PROGRAM [WORD]`: with a word, only the groups whose names have it. The last line is 'N passed, M failed'.
+//! `outside PROGRAM [WORD]`: with a word, only the groups whose names have it. The last line is 'N passed, M failed', and the line
+//! before it tells how many inputs there were.
 
+mod bundle_calls;
 mod calls;
 mod checks;
+mod count;
 mod groups;
 mod guarded;
+mod listed;
 mod make;
+mod make_bundles;
 mod plain;
 mod plain_bundle;
 mod random;
 mod raw;
 
-use groups::{bundles, inverse, lists, packets, program, reduction, refusals, sheet, writer, Tried};
+use groups::{
+    bundles, enumerated, grids, inverse, lists, orders, packets, program, reduction, refusals, sheet, views, writer, Tried,
+};
 use random::Random;
 use std::panic::catch_unwind;
 use std::time::Instant;
@@ -19,28 +26,45 @@ use std::time::Instant;
 type Part = fn(&mut Random) -> Tried;
 
 /// a group's name and its parts
-const GROUPS: [(&str, &[Part]); 24] = [
+const GROUPS: &[(&str, &[Part])] = &[
     ("worked examples, largest and first too large numbers", &[sheet::reductions, sheet::packets, sheet::limits]),
     ("empty buffers as null pointers", &[sheet::empty_buffers]),
-    ("model: both plain solvers agree", &[packets::models_agree]),
-    ("row views", &[reduction::views]),
+    ("model: both plain solvers agree (no call of the library)", &[packets::models_agree]),
+    ("row views: rows that repeat each other, each at its own place", &[views::repeated_rows]),
+    ("row views: numbers around every bound, every set of refusals", &[views::grid, views::refusals]),
+    ("reduction: every matrix of up to 12 bits, every k", &[enumerated::matrices]),
     ("reduction: small, every k", &[reduction::small]),
-    ("reduction: around word borders and large, every k", &[reduction::borders, reduction::large]),
-    ("reduction: refusals", &[refusals::reduce]),
-    ("inverse: small and large, both products", &[inverse::small, inverse::large]),
-    ("inverse: refusals", &[refusals::invert]),
+    ("reduction: every style at the borders of words, every k", &[reduction::styles]),
+    ("reduction: rows around multiples of k, every rank", &[reduction::rows_around_k]),
+    ("reduction: middle and large", &[reduction::borders, reduction::shapes, reduction::large, reduction::largest_of_every_style]),
+    ("reduction: every set of refusals", &[refusals::reduce]),
+    ("reduction: numbers around every bound", &[grids::reduce]),
+    ("inverse: every matrix of up to 4 rows", &[enumerated::squares]),
+    ("inverse: small, every k, both products", &[inverse::small]),
+    ("inverse: kinds that have one, spoilt and not, every k, up to 512 rows", &[inverse::kinds, inverse::large]),
+    ("inverse: every set of refusals", &[refusals::invert]),
+    ("inverse: numbers around every bound", &[grids::invert]),
+    ("packets: every list of up to 12 bits, both calls, against all images", &[enumerated::lists]),
     ("solving: against all images", &[packets::against_all_images]),
-    ("solving: against the plain reduction, up to 512 packets", &[packets::middle, packets::large]),
-    ("solving: refusals", &[refusals::solve]),
-    ("solving: longer lists", &[lists::second_lists]),
+    ("solving: against the plain reduction", &[packets::middle]),
+    ("packets: lists of a known image, changed, both calls", &[packets::changed_small, packets::changed_large, packets::large]),
+    ("solving: every set of refusals", &[refusals::solve]),
+    ("solving: numbers around every bound", &[grids::solve]),
+    ("solving: lists that grow", &[lists::growths]),
     ("solving: order and repeats", &[lists::order_and_repeats]),
     ("contradiction: named packets contradict, none if solvable", &[packets::contradictions_small, packets::contradictions_large]),
-    ("contradiction: refusals", &[refusals::contradiction]),
-    ("bundles: good and the longest", &[bundles::good, bundles::longest]),
-    ("bundles: cut at every byte", &[bundles::cut]),
-    ("bundles: damaged, every bit turned", &[bundles::damaged, bundles::every_bit]),
+    ("contradiction: every set of refusals", &[refusals::contradiction]),
+    ("contradiction: numbers around every bound", &[grids::contradiction]),
+    ("bundles: good, of many shapes", &[bundles::good]),
+    ("bundles: entries that are none, words too few and too many", &[bundles::places]),
+    ("bundles: cut at every byte, and the longest", &[bundles::cut, bundles::lengths]),
+    ("bundles: damaged, every byte in turn another", &[bundles::damaged, bundles::every_byte]),
+    ("bundles: every set of faults of two entries", &[orders::reading]),
+    ("bundles: every set of faults of a place", &[orders::places]),
+    ("bundles: numbers past every bound", &[bundles::limits]),
     ("bundles: writer", &[writer::good]),
-    ("bundles: refusals of the writer", &[writer::refusals, writer::entry_by_entry]),
+    ("bundles: every set of the writer's refusals", &[writer::refusals, writer::entry_by_entry]),
+    ("bundles: lists of every length, near the limit", &[writer::grid, writer::near_the_limit]),
     ("bundles: round trips", &[writer::round_trips]),
     ("program: from files", &[program::files]),
     ("program: from pipes, in pieces, and too long", &[program::pieces, program::too_long]),
@@ -48,21 +72,20 @@ const GROUPS: [(&str, &[Part]); 24] = [
 
 /// all parts of a group, each with numbers of its own
 fn try_all(seed: usize, parts: &[Part]) -> Tried {
-    let mut inputs = 0;
     for (place, part) in parts.iter().enumerate() {
-        inputs += part(&mut Random::new((seed * 16 + place + 1) as u64))?;
+        part(&mut Random::new((seed * 16 + place + 1) as u64))?;
     }
-    Ok(inputs)
+    Ok(())
 }
 
 /// true if the group passed; says so in a line
 fn passes(place: usize, name: &str, parts: &[Part]) -> bool {
-    let start = Instant::now();
-    let tried = catch_unwind(|| try_all(place, parts)).unwrap_or(Err("it panicked".into()));
-    let seconds = start.elapsed().as_secs_f64();
+    let (start, before) = (Instant::now(), count::so_far());
+    let tried = catch_unwind(|| try_all(place, parts)).unwrap_or_else(|_| Err("it panicked".into()));
+    let (seconds, inputs) = (start.elapsed().as_secs_f64(), count::so_far() - before);
     match &tried {
-        Ok(inputs) => println!("passed  {name}: {inputs} inputs, {seconds:.1} s"),
-        Err(what) => println!("FAILED  {name}: {what}"),
+        Ok(()) => println!("passed  {name}: {inputs} inputs, {seconds:.1} s"),
+        Err(what) => println!("FAILED  {name}: {what} (after {inputs} inputs)"),
     }
     tried.is_ok()
 }
@@ -72,6 +95,7 @@ fn main() {
     let chosen = GROUPS.iter().enumerate().filter(|(_, (name, _))| name.contains(&word));
     let results: Vec<bool> = chosen.map(|(place, (name, parts))| passes(place, name, parts)).collect();
     let passed = results.iter().filter(|passed| **passed).count();
+    println!("{} inputs in all", count::so_far());
     println!("{passed} passed, {} failed", results.len() - passed);
     std::process::exit(i32::from(passed != results.len()));
 }

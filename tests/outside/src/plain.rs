@@ -32,7 +32,7 @@ impl Answer {
 }
 
 pub fn words_of(columns: usize) -> usize {
-    columns.div_ceil(64)
+    columns / 64 + usize::from(columns % 64 != 0)
 }
 
 pub fn to_bits(words: &[u64], rows: usize, columns: usize) -> Bits {
@@ -65,7 +65,10 @@ pub fn reduced(matrix: &Bits, columns: usize) -> (Bits, Vec<usize>) {
     let mut pivots = Vec::new();
     for column in 0..columns {
         let top = pivots.len();
-        let Some(found) = (top..bits.len()).find(|&row| bits[row][column] == 1) else { continue };
+        let found = match (top..bits.len()).find(|&row| bits[row][column] == 1) {
+            Some(row) => row,
+            None => continue,
+        };
         bits.swap(top, found);
         for row in 0..bits.len() {
             if row != top && bits[row][column] == 1 {
@@ -79,9 +82,8 @@ pub fn reduced(matrix: &Bits, columns: usize) -> (Bits, Vec<usize>) {
 
 /// sum over the windows of 2^(pivots in the window) - 1
 pub fn additions(pivots: &[usize], columns: usize, k: usize) -> usize {
-    let windows = columns.div_ceil(k);
     let inside = |window: usize| pivots.iter().filter(|&&pivot| pivot / k == window).count();
-    (0..windows).map(|window| (1usize << inside(window)) - 1).sum()
+    (0..=columns / k).map(|window| (1usize << inside(window)) - 1).sum()
 }
 
 pub fn beside_identity(matrix: &Bits) -> Bits {
@@ -131,18 +133,22 @@ pub fn agreed_by_images(packets: &Bits, n: usize, p: usize) -> Agreed {
 }
 
 /// read off the reduced form: a block is known if some row has that coefficient alone
-pub fn agreed_by_reduction(packets: &Bits, n: usize, columns: usize) -> Agreed {
-    let (form, pivots) = reduced(packets, columns);
+fn agreed_in(form: &Bits, pivots: &[usize], n: usize) -> Agreed {
     if pivots.iter().any(|&pivot| pivot >= n) {
         return None;
     }
     let mut blocks = vec![None; n];
-    for (row, &pivot) in form.iter().zip(&pivots) {
+    for (row, &pivot) in form.iter().zip(pivots) {
         if row[..n].iter().filter(|&&bit| bit == 1).count() == 1 {
             blocks[pivot] = Some(row[n..].to_vec());
         }
     }
     Some(blocks)
+}
+
+pub fn agreed_by_reduction(packets: &Bits, n: usize, columns: usize) -> Agreed {
+    let (form, pivots) = reduced(packets, columns);
+    agreed_in(&form, &pivots, n)
 }
 
 /// the packets named, as zeros and ones, if there is a contradiction
@@ -152,14 +158,25 @@ pub fn named(packets: &Bits, n: usize, columns: usize) -> Option<Vec<u8>> {
     Some(form[row][columns..].to_vec())
 }
 
-/// what solving answers and how image and marks end, for a list that passes the checks
-pub fn solved(packets: &Bits, columns: usize, n: usize, k: usize) -> Option<(Answer, Vec<u64>, Vec<u8>)> {
-    let blocks = agreed_by_reduction(packets, n, columns)?;
-    let (_, pivots) = reduced(packets, columns);
-    let marks: Vec<u8> = blocks.iter().map(|block| u8::from(block.is_some())).collect();
-    let known = marks.iter().map(|&mark| usize::from(mark)).sum();
-    let contents: Bits = blocks.into_iter().map(|block| block.unwrap_or(vec![0; columns - n])).collect();
-    Some((Answer::told(&pivots, columns, k, known), to_words(&contents, columns - n), marks))
+/// marks and image of blocks that are known or not
+pub fn laid(blocks: &[Option<Vec<u8>>], p: usize) -> (Vec<u8>, Vec<u64>) {
+    let marks = blocks.iter().map(|block| u8::from(block.is_some())).collect();
+    let contents: Bits = blocks.iter().map(|block| block.clone().unwrap_or_else(|| vec![0; p])).collect();
+    (marks, to_words(&contents, p))
+}
+
+/// the answer, the marks and the image
+type Told = (Answer, Vec<u8>, Vec<u64>);
+
+/// how packets that pass the checks end, and what is told of them unless they contradict each other
+pub fn solved(packets: &Bits, columns: usize, n: usize, k: usize) -> (Vec<u64>, Option<Told>) {
+    let (form, pivots) = reduced(packets, columns);
+    let told = agreed_in(&form, &pivots, n).map(|blocks| {
+        let (marks, image) = laid(&blocks, columns - n);
+        let known = marks.iter().map(|&mark| usize::from(mark)).sum();
+        (Answer::told(&pivots, columns, k, known), marks, image)
+    });
+    (to_words(&form, columns), told)
 }
 
 pub fn reduction(matrix: &Bits, columns: usize, k: usize) -> (Answer, Vec<u64>) {

@@ -178,11 +178,10 @@ impl Lists {
 
     pub fn write(&self, room: usize) -> Result<Vec<u8>, u64> {
         self.refusal()?;
-        let bytes = self.bytes();
-        match bytes.len() {
+        match 2 + 10 * self.kinds.len() + 8 * self.words.len() {
             length if length > 65_535 => Err(29),
             length if length > room => Err(28),
-            _ => Ok(bytes),
+            _ => Ok(self.bytes()),
         }
     }
 }

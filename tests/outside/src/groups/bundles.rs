@@ -1,137 +1,97 @@
 //! Reading, an entry's numbers and unpacking, over good, cut and damaged bundles.
 
 use super::{ensure, Tried};
-use crate::guarded::Guarded;
-use crate::make;
-use crate::plain::{self, words_of};
-use crate::plain_bundle::{self, Entry, Lists};
+use crate::bundle_calls::Bundle;
+use crate::make_bundles::{bytes_of, damage, entries, little, longest, of_shapes, planned, put, MODES};
 use crate::random::Random;
-use crate::raw;
 
-pub fn entry(random: &mut Random, rows: usize, columns: usize) -> Entry {
-    let bits = make::matrix(random, rows, columns);
-    let kind = random.between(1, 2) as u16;
-    Entry { kind, rows: rows as u16, columns: columns as u16, words: plain::to_words(&bits, columns) }
-}
-
-/// a good bundle's entries: few or many, with rows of one to three words, some without rows
-pub fn entries(random: &mut Random, most: usize) -> Vec<Entry> {
-    let count = random.between(1, most);
-    let one = |random: &mut Random| {
-        let (rows, columns) = (random.below(6), random.of(&[1, 2, 3, 5, 63, 64, 65, 127, 128, 130]));
-        entry(random, rows, columns)
-    };
-    (0..count).map(|_| one(random)).collect()
-}
-
-pub fn bytes_of(entries: &[Entry]) -> Vec<u8> {
-    Lists::of(entries).write(usize::MAX).expect("a good bundle")
-}
-
-fn told(found: Result<&Entry, u64>) -> raw::Entry {
-    match found {
-        Ok(e) => raw::Entry { refusal: 0, kind: e.kind.into(), rows: e.rows.into(), columns: e.columns.into() },
-        Err(refusal) => raw::Entry { refusal, kind: 0, rows: 0, columns: 0 },
+/// every call that reads, on any bytes; gives the refusal of reading
+pub fn check(random: &mut Random, given: &[u8]) -> Result<u64, String> {
+    let bundle = Bundle::new(given);
+    bundle.read()?;
+    if bundle.refusal() != 0 {
+        for i in [0, usize::MAX] {
+            bundle.entry(i)?;
+            bundle.unpack(random, i, 3)?;
+        }
+        return Ok(bundle.refusal());
     }
+    for i in (0..bundle.count() + 1).chain([64, usize::MAX]) {
+        bundle.entry(i)?;
+        let exact = bundle.exact(i);
+        for length in [exact, exact + 1, exact.saturating_sub(1)] {
+            bundle.unpack(random, i, length)?;
+        }
+    }
+    Ok(0)
 }
 
-fn unpack(bytes: &Guarded<u8>, i: usize, lent: &[u64], found: Result<&Entry, u64>) -> Result<(), String> {
-    let fitting = found.and_then(|entry| if entry.words.len() == lent.len() { Ok(entry) } else { Err(4) });
-    let mut words = Guarded::new(lent);
-    let got = unsafe { raw::chhayublo_bundle_unpack(bytes.at(), bytes.len(), i, words.at_mut(), words.len()) };
-    ensure(got == told(fitting), || format!("unpacking {i}: got {got:?}, expected {:?}", told(fitting)))?;
-    words.holds("unpacked words", fitting.map_or(lent, |entry| &entry.words))
+fn accepted(random: &mut Random, bytes: &[u8]) -> Tried {
+    let refusal = check(random, bytes)?;
+    ensure(refusal == 0, || format!("a good bundle of {} bytes refused with {refusal}", bytes.len()))
 }
 
-fn at_index(random: &mut Random, bytes: &Guarded<u8>, i: usize, model: &Result<Vec<Entry>, u64>) -> Result<(), String> {
-    let found = model.as_ref().map_err(|number| *number).and_then(|list| list.get(i).ok_or(12));
-    let got = unsafe { raw::chhayublo_bundle_entry(bytes.at(), bytes.len(), i) };
-    ensure(got == told(found), || format!("entry {i}: got {got:?}, expected {:?}", told(found)))?;
-    let exact = found.map_or(3, |entry| entry.words.len());
-    for length in [exact, exact + 1, exact.saturating_sub(1)] {
-        unpack(bytes, i, &random.words(length), found)?;
+fn refused(random: &mut Random, bytes: &[u8], wanted: u64) -> Tried {
+    let refusal = check(random, bytes)?;
+    ensure(refusal == wanted, || format!("{} bytes: {refusal} where {wanted} is due", bytes.len()))
+}
+
+pub fn good(random: &mut Random) -> Tried {
+    for round in 0..3000 {
+        let most = if round % 50 == 0 { 64 } else { 5 };
+        let list = entries(random, most);
+        accepted(random, &bytes_of(&list))?;
+    }
+    for list in planned(random) {
+        accepted(random, &bytes_of(&list))?;
     }
     Ok(())
 }
 
-/// every call that reads, on any bytes; gives the refusal of reading
-pub fn check(random: &mut Random, given: &[u8]) -> Result<u64, String> {
-    let model = plain_bundle::read(given);
-    let bytes = Guarded::new(given);
-    let got = unsafe { raw::chhayublo_bundle_read(bytes.at(), bytes.len()) };
-    let (refusal, count) = match &model {
-        Ok(list) => (0, list.len()),
-        Err(number) => (*number, 0),
-    };
-    let expected = raw::Count { refusal, entries: count };
-    ensure(got == expected, || format!("reading {} bytes: got {got:?}, expected {expected:?}", given.len()))?;
-    for i in (0..count + 1).chain([64, 1 << 32, usize::MAX]) {
-        at_index(random, &bytes, i, &model)?;
+/// each entry into words that are too few and too many, and entries that are none
+pub fn places(random: &mut Random) -> Tried {
+    for _ in 0..400 {
+        let bytes = bytes_of(&entries(random, 4));
+        let bundle = Bundle::new(&bytes);
+        let count = bundle.count();
+        for i in 0..count {
+            let exact = bundle.exact(i);
+            for length in [exact + 1, exact + 2, exact + 64, exact.wrapping_sub(1), exact / 2, 0] {
+                if length != exact && length < 1 << 20 {
+                    let answers = (bundle.entry(i)?, bundle.unpack(random, i, length)?);
+                    ensure(answers == (0, 4), || format!("entry {i} into {length} words: {answers:?}"))?;
+                }
+            }
+        }
+        for i in [count, count + 1, 64, 256, 65_536, 1 << 32, 1 << 63, usize::MAX] {
+            for length in [bundle.exact(0), 0] {
+                let answers = (bundle.entry(i)?, bundle.unpack(random, i, length)?);
+                ensure(answers == (12, 12), || format!("entry {i} of {count}: {answers:?}"))?;
+            }
+        }
     }
-    bytes.holds("bundle", given)?;
-    Ok(refusal)
-}
-
-pub fn good(random: &mut Random) -> Tried {
-    for round in 0..6000 {
-        let most = if round % 20 == 0 { 64 } else { 5 };
-        let list = entries(random, most);
-        let refusal = check(random, &bytes_of(&list))?;
-        ensure(refusal == 0, || format!("a good bundle refused with {refusal}"))?;
-    }
-    Ok(6000)
+    Ok(())
 }
 
 pub fn cut(random: &mut Random) -> Tried {
-    let mut tried = 0;
-    for _ in 0..150 {
-        let list = entries(random, 4);
+    for round in 0..150 {
+        let list = if round < MODES { little(random, round) } else { entries(random, 4) };
         let whole = bytes_of(&list);
         for length in 0..whole.len() {
             let refusal = check(random, &whole[..length])?;
             ensure(refusal != 0, || format!("{length} bytes of {} accepted", whole.len()))?;
         }
-        let extra = random.between(1, 11);
-        let longer = [whole.clone(), random.bytes(extra)].concat();
-        ensure(check(random, &longer)? == 27, || "bytes after the last body accepted".into())?;
-        tried += whole.len() + 1;
-    }
-    Ok(tried)
-}
-
-fn put(bytes: &mut [u8], at: usize, value: usize, length: usize) {
-    for i in 0..length {
-        if at + i < bytes.len() {
-            bytes[at + i] = (value >> (8 * i)) as u8;
+        for extra in [1, 2, 8, random.between(3, 11)] {
+            let longer = [whole.clone(), random.bytes(extra)].concat();
+            refused(random, &longer, 27)?;
         }
     }
-}
-
-/// one thing made wrong: a number of the contents, a byte or a bit anywhere, the length, or two heads exchanged
-pub fn damage(random: &mut Random, bytes: &mut Vec<u8>) {
-    let count = usize::from(bytes.first().copied().unwrap_or(1)).max(1);
-    let head = 2 + 10 * random.below(count);
-    let offset = bytes.get(head + 6).map_or(0, |&low| usize::from(low));
-    match random.below(10) {
-        0 => put(bytes, 0, random.of(&[0, count + 1, count - 1, 65, 64, 256, 65535]), 2),
-        1 => put(bytes, head, random.of(&[0, 1, 2, 3, 256, 257, 65535]), 2),
-        2 => put(bytes, head + 2, random.of(&[0, 1, 512, 513, 65535]), 2),
-        3 => put(bytes, head + 4, random.of(&[0, 1, 64, 65, 1024, 1025, 65535]), 2),
-        4 => put(bytes, head + 6, random.of(&[0, offset + 1, offset.wrapping_sub(1), offset + 8, offset + 65536]), 4),
-        5 => bytes.truncate(random.below(bytes.len() + 1)),
-        6 => bytes.extend(vec![0; random.between(1, 9)]),
-        7 if bytes.len() >= 22 => (0..10).for_each(|i| bytes.swap(2 + i, 12 + i)),
-        _ if !bytes.is_empty() => {
-            let at = random.below(bytes.len());
-            bytes[at] ^= 1 << random.below(8);
-        }
-        _ => bytes.push(0),
-    }
+    Ok(())
 }
 
 pub fn damaged(random: &mut Random) -> Tried {
     let mut seen = std::collections::BTreeSet::new();
-    for _ in 0..40_000 {
+    for _ in 0..20_000 {
         let list = entries(random, 4);
         let mut bytes = bytes_of(&list);
         for _ in 0..random.between(1, 3) {
@@ -140,40 +100,77 @@ pub fn damaged(random: &mut Random) -> Tried {
         seen.insert(check(random, &bytes)?);
     }
     let all = [0, 5, 20, 21, 22, 23, 24, 25, 26, 27];
-    ensure(seen.into_iter().eq(all), || "not every refusal of a bundle was met".into())?;
-    Ok(40_000)
+    ensure(seen.into_iter().eq(all), || "not every refusal of a bundle was met".into())
 }
 
-/// each bit of small bundles turned by itself: padding and columns of both kinds
-pub fn every_bit(random: &mut Random) -> Tried {
-    let mut tried = 0;
-    for _ in 0..40 {
-        let list = entries(random, 3);
+/// each byte of small bundles in turn another: a small number, the largest, the next, and with each bit turned
+pub fn every_byte(random: &mut Random) -> Tried {
+    for round in 0..12 {
+        let list = if round < MODES { little(random, round) } else { entries(random, 3) };
         let mut bytes = bytes_of(&list);
-        for bit in 0..8 * bytes.len() {
-            bytes[bit / 8] ^= 1 << (bit % 8);
-            check(random, &bytes)?;
-            bytes[bit / 8] ^= 1 << (bit % 8);
-            tried += 1;
+        for at in 0..bytes.len() {
+            let own = bytes[at];
+            let turned = (0..8).map(|bit| own ^ 1 << bit);
+            for other in [0, 1, 2, 3, 255, own.wrapping_add(1)].into_iter().chain(turned) {
+                bytes[at] = other;
+                check(random, &bytes)?;
+            }
+            bytes[at] = own;
         }
     }
-    Ok(tried)
+    Ok(())
 }
 
-pub fn longest(random: &mut Random) -> Tried {
+/// a number of an entry that is at fault, with its place among the entry's ten bytes, its length and the refusal due
+fn bad_numbers(offset: usize) -> Vec<(usize, usize, usize, u64)> {
+    let kinds = [0, 3, 256, 257, 258, 513, 32_769, 65_535].map(|value| (value, 0, 2, 23));
+    let rows = [513, 514, 1024, 32_768, 65_535].map(|value| (value, 2, 2, 24));
+    let columns = [0, 1025, 1026, 2048, 65_535].map(|value| (value, 4, 2, 24));
+    let near = [0, offset - 1, offset + 1, offset ^ 32, offset + 256, offset + 65_536, offset + (1 << 31), (1 << 32) - 1];
+    let offsets = near.map(|value| (value, 6, 4, 25));
+    [&kinds[..], &rows, &columns, &offsets].concat()
+}
+
+/// numbers past their bounds, in each entry of three and in the count
+pub fn limits(random: &mut Random) -> Tried {
+    for mode in 0..MODES {
+        let whole = bytes_of(&little(random, mode));
+        for (entry, offset) in [(0, 32), (1, 64), (2, 88)] {
+            for (value, place, length, number) in bad_numbers(offset) {
+                let mut bytes = whole.clone();
+                put(&mut bytes, 2 + 10 * entry + place, value, length);
+                refused(random, &bytes, number)?;
+            }
+        }
+        for count in [0, 65, 256, 257, 258, 32_770, 65_535] {
+            let mut bytes = whole.clone();
+            put(&mut bytes, 0, count, 2);
+            refused(random, &bytes, 21)?;
+        }
+    }
+    Ok(())
+}
+
+/// the longest bundles, and lengths that are not theirs
+pub fn lengths(random: &mut Random) -> Tried {
+    let whole = bytes_of(&longest(random));
+    ensure(whole.len() == 65_534, || "length of the longest bundle".into())?;
+    for (length, number) in [(0, 20), (1, 20), (2, 22), (21, 22), (22, 26), (65_533, 26), (65_535, 27), (65_536, 20)] {
+        let mut bytes = whole.clone();
+        bytes.resize(length, 0);
+        refused(random, &bytes, number)?;
+    }
+    for (length, number) in [(2, 21), (65_535, 21), (65_536, 20)] {
+        refused(random, &vec![0; length], number)?;
+    }
     let shapes: [&[(usize, usize)]; 4] = [&[(512, 960), (509, 64)], &[(511, 1024)], &[(512, 960)], &[(0, 1024); 64]];
-    let mut tried = 0;
     for shape in shapes {
-        let list: Vec<Entry> = shape.iter().map(|&(rows, columns)| entry(random, rows, columns)).collect();
-        let words: usize = shape.iter().map(|&(rows, columns)| rows * words_of(columns)).sum();
-        let mut bytes = bytes_of(&list);
-        ensure(bytes.len() == 2 + 10 * shape.len() + 8 * words, || "length of a bundle".into())?;
-        ensure(check(random, &bytes)? == 0, || format!("{} bytes refused", bytes.len()))?;
-        for (length, refusal) in [(65_535, 27), (65_536, 20), (70_000, 20)] {
+        let mut bytes = bytes_of(&of_shapes(random, shape, 2));
+        accepted(random, &bytes)?;
+        for (length, number) in [(65_535, 27), (65_536, 20), (70_000, 20)] {
             bytes.resize(length, 0);
-            ensure(check(random, &bytes)? == refusal, || format!("{length} bytes"))?;
+            refused(random, &bytes, number)?;
         }
-        tried += 4;
     }
-    Ok(tried)
+    Ok(())
 }

@@ -1,19 +1,23 @@
-//! The groups of inputs. Each gives the number of inputs that it tried, or says what was wrong with the first that failed.
+//! The groups of inputs. Each says what was wrong with the first input that failed, if one did.
 
 pub mod bundles;
+pub mod enumerated;
+pub mod grids;
 pub mod inverse;
 pub mod lists;
+pub mod orders;
 pub mod packets;
 pub mod program;
 pub mod reduction;
 pub mod refusals;
 pub mod sheet;
+pub mod views;
 pub mod writer;
 
-pub type Tried = Result<usize, String>;
+pub type Tried = Result<(), String>;
 
 /// an error unless it holds
-pub fn ensure(holds: bool, what: impl FnOnce() -> String) -> Result<(), String> {
+pub fn ensure(holds: bool, what: impl FnOnce() -> String) -> Tried {
     if holds {
         Ok(())
     } else {

@@ -1,12 +1,11 @@
-//! The row view, and the reduction of small, wide and large matrices with every k.
+//! The reduction of small, wide and large matrices of every style, with every k.
 
 use super::{ensure, Tried};
-use crate::calls;
-use crate::checks::Numbers;
-use crate::make;
-use crate::plain::Bits;
+use crate::make::{self, BORDERS, STYLES};
+use crate::plain::{self, Bits};
 use crate::random::Random;
 
+/// the same matrix with each k: another k changes nothing but the additions
 fn every_k(random: &mut Random, bits: &Bits, columns: usize) -> Tried {
     let mut first = None;
     for k in 1..=8 {
@@ -14,57 +13,90 @@ fn every_k(random: &mut Random, bits: &Bits, columns: usize) -> Tried {
         let same = first.get_or_insert_with(|| form.clone());
         ensure(*same == form, || format!("k = {k} gives another matrix"))?;
     }
-    Ok(8)
+    Ok(())
 }
 
 pub fn small(random: &mut Random) -> Tried {
-    let mut tried = 0;
-    for _ in 0..9000 {
+    for _ in 0..25_000 {
         let (rows, columns) = (random.below(13), random.between(1, 24));
         let bits = make::matrix(random, rows, columns);
-        tried += every_k(random, &bits, columns)?;
+        every_k(random, &bits, columns)?;
     }
-    Ok(tried)
+    Ok(())
+}
+
+/// every style at every border of words, with few rows
+pub fn styles(random: &mut Random) -> Tried {
+    for columns in BORDERS {
+        for style in STYLES {
+            for rows in [1, 2, 5, random.between(6, 40)] {
+                let bits = style(random, rows, columns);
+                every_k(random, &bits, columns)?;
+            }
+        }
+    }
+    Ok(())
+}
+
+/// one row less than k, k, one more, the same with 2k, 3k and above; ranks of none, few, half and all of the rows
+pub fn rows_around_k(random: &mut Random) -> Tried {
+    for k in 1..=8 {
+        for rows in (1..=4).flat_map(|times| [times * k - 1, times * k, times * k + 1]) {
+            for columns in [1, k, k + 1, 2 * k, 3 * k + 1, 63, 64, 65, 128, 129, 193] {
+                let most: usize = rows.min(columns);
+                for rank in [0, 1.min(most), most / 2, most.saturating_sub(1), most] {
+                    let bits = make::of_rank(random, rows, columns, rank);
+                    let (answer, _) = make::reduce(random, &bits, columns, k).check()?;
+                    ensure(answer.rank == rank, || format!("{rows} x {columns}: rank {}, made {rank}", answer.rank))?;
+                }
+            }
+        }
+    }
+    Ok(())
 }
 
 pub fn borders(random: &mut Random) -> Tried {
-    let mut tried = 0;
     for word in 1..=16 {
         for columns in [64 * word - 1, 64 * word, 64 * word + 1] {
             for _ in 0..12 {
                 let (rows, columns) = (random.below(70), columns.min(1024));
                 let bits = make::matrix(random, rows, columns);
-                tried += every_k(random, &bits, columns)?;
+                every_k(random, &bits, columns)?;
             }
         }
     }
-    Ok(tried)
+    Ok(())
+}
+
+/// any shape at all, and any k
+pub fn shapes(random: &mut Random) -> Tried {
+    for _ in 0..1200 {
+        let (rows, columns, k) = (random.below(513), random.between(1, 1024), random.between(1, 8));
+        let bits = make::matrix(random, rows, columns);
+        make::reduce(random, &bits, columns, k).check()?;
+    }
+    Ok(())
 }
 
 pub fn large(random: &mut Random) -> Tried {
-    let mut tried = 0;
     let shapes = [(512, 1024), (512, 1023), (511, 1024), (512, 512), (512, 513), (512, 65), (512, 1), (1, 1024), (300, 700)];
     for (rows, columns) in shapes {
-        for _ in 0..5 {
-            let bits = make::matrix(random, rows, columns);
-            tried += every_k(random, &bits, columns)?;
+        for style in 0..4 {
+            let bits = if style == 0 { make::dense(random, rows, columns) } else { make::matrix(random, rows, columns) };
+            every_k(random, &bits, columns)?;
         }
-        let bits = make::dense(random, rows, columns);
-        tried += every_k(random, &bits, columns)?;
     }
-    Ok(tried)
+    Ok(())
 }
 
-pub fn views(random: &mut Random) -> Tried {
-    for _ in 0..20_000 {
-        let rows = random.of(&[0, 1, 2, 5, 12, 12, 12, 13, 512, 513, usize::MAX]);
-        let columns = random.of(&[0, 1, 63, 64, 65, 128, 200, 1023, 1024, 1025, usize::MAX]);
-        let numbers = Numbers { rows, columns, ..Numbers::default() };
-        let whole = numbers.matrix_words().min(9000) as usize;
-        let length = random.of(&[whole, whole, whole, whole, whole + 1, whole.saturating_sub(1)]);
-        let i = random.of(&[0, 1, 4, 5, 11, 12, rows.wrapping_sub(1), rows, usize::MAX, 1 << 60]);
-        // junk everywhere: a view shows rows whose padding is not zero
-        calls::row_view(numbers, &random.words(length), i)?;
+/// every style with as many rows and columns as there may be
+pub fn largest_of_every_style(random: &mut Random) -> Tried {
+    for style in STYLES {
+        let (k, bits) = (random.between(1, 8), style(random, 512, 1024));
+        let (answer, form) = make::reduce(random, &bits, 1024, k).check()?;
+        let again = plain::to_bits(&form, 512, 1024);
+        let (same, twice) = make::reduce(random, &again, 1024, k).check()?;
+        ensure(same == answer && twice == form, || "a reduced matrix changes when it is reduced".into())?;
     }
-    Ok(20_000)
+    Ok(())
 }

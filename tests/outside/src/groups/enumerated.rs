@@ -1,0 +1,64 @@
+//! All inputs of small sizes, none left out.
+
+use super::packets::{all_images, both_calls, named};
+use super::{ensure, Tried};
+use crate::make;
+use crate::plain::{self, Bits};
+use crate::random::Random;
+
+/// the matrix whose bits, row by row, are those of the number
+fn numbered(number: usize, rows: usize, columns: usize) -> Bits {
+    (0..rows).map(|row| (0..columns).map(|column| (number >> (row * columns + column) & 1) as u8).collect()).collect()
+}
+
+/// every matrix of up to 12 bits, with every k
+pub fn matrices(random: &mut Random) -> Tried {
+    for columns in 1..=12 {
+        for rows in 0..=12 / columns {
+            for number in 0..1 << (rows * columns) {
+                let bits = numbered(number, rows, columns);
+                for k in 1..=8 {
+                    make::reduce(random, &bits, columns, k).check()?;
+                }
+            }
+        }
+    }
+    Ok(())
+}
+
+/// every square matrix of up to 4 rows; how many have an inverse is known
+pub fn squares(random: &mut Random) -> Tried {
+    for (size, right) in [(1, 1), (2, 6), (3, 168), (4, 20_160)] {
+        let mut found = 0;
+        for number in 0..1 << (size * size) {
+            let bits = numbered(number, size, size);
+            let (refusal, inverse) = make::invert(random, &bits, number % 8 + 1).check()?;
+            found += usize::from(refusal == 0);
+            let undone = inverse.map_or(true, |inverse| plain::product(&bits, &inverse) == plain::identity(size));
+            ensure(undone, || format!("the product with matrix {number} of size {size} is not the identity"))?;
+        }
+        ensure(found == right, || format!("{found} matrices of size {size} have an inverse, where {right} do"))?;
+    }
+    Ok(())
+}
+
+/// solving, and the contradiction call before and after it: the reduced packets contradict each other exactly if the packets do
+fn list(random: &mut Random, bits: &Bits, n: usize, p: usize, k: usize) -> Tried {
+    let solved = both_calls(random, bits, n, p, k)?;
+    all_images(&solved, bits, n, p)?;
+    let left = plain::to_bits(&solved.packets, bits.len(), n + p);
+    let again = named(random, &left, n, p, k)?;
+    ensure(again == (solved.answer.refusal == 10), || format!("n {n}, p {p}: reduced packets named {again}"))
+}
+
+/// every list of up to 12 bits, of up to 4 blocks of up to 3 bits, against all images
+pub fn lists(random: &mut Random) -> Tried {
+    for (n, p) in (1..=4).flat_map(|n| (1..=3).map(move |p| (n, p))) {
+        for rows in 0..=12 / (n + p) {
+            for number in 0..1 << (rows * (n + p)) {
+                list(random, &numbered(number, rows, n + p), n, p, number % 8 + 1)?;
+            }
+        }
+    }
+    Ok(())
+}
