@@ -4,7 +4,7 @@
 use crate::checks::{self, Numbers};
 use crate::count;
 use crate::guarded::Guarded;
-use crate::plain::{self, Answer, Bits};
+use crate::plain::{self, Answer, Bits, Reduced};
 use crate::raw;
 
 fn same<T: PartialEq + std::fmt::Debug>(what: &str, got: T, expected: T) -> Result<(), String> {
@@ -54,12 +54,18 @@ pub struct Reduce {
 }
 
 impl Reduce {
-    fn expected(&self) -> (Answer, Vec<u64>, Vec<u64>) {
+    fn model(&self) -> Reduced {
+        plain::reduced(&plain::to_bits(&self.matrix, self.numbers.rows, self.numbers.columns), self.numbers.columns)
+    }
+
+    fn expected(&self, known: Option<&Reduced>) -> (Answer, Vec<u64>, Vec<u64>) {
         let x = self.numbers;
         match checks::reduce(x, &self.matrix, self.room.len()) {
             0 => {
-                let bits = plain::to_bits(&self.matrix, x.rows, x.columns);
-                let (answer, form) = plain::reduction(&bits, x.columns, x.k);
+                let (answer, form) = match known {
+                    Some(reduced) => plain::reduction(reduced, x.columns, x.k),
+                    None => plain::reduction(&self.model(), x.columns, x.k),
+                };
                 (answer, form, cleared(&self.room, x.reduce_room()))
             }
             refusal => (Answer::refused(refusal), self.matrix.clone(), self.room.clone()),
@@ -67,11 +73,16 @@ impl Reduce {
     }
 
     pub fn check(&self) -> Result<(Answer, Vec<u64>), String> {
+        self.check_by(None)
+    }
+
+    /// the same by a reduced form that the model has given already, since it is one and the same for every k
+    pub fn check_by(&self, known: Option<&Reduced>) -> Result<(Answer, Vec<u64>), String> {
         let x = self.numbers;
         let (mut matrix, mut room) = (Guarded::new(&self.matrix), Guarded::new(&self.room));
         let got =
             unsafe { raw::chhayublo_reduce(matrix.at_mut(), matrix.len(), x.rows, x.columns, x.k, room.at_mut(), room.len()) };
-        let (answer, matrix_after, room_after) = self.expected();
+        let (answer, matrix_after, room_after) = self.expected(known);
         same(&format!("reduction, {x:?}"), seen(got), answer.clone())?;
         matrix.holds(&format!("matrix of reduction, {x:?}"), &matrix_after)?;
         room.holds(&format!("room of reduction, {x:?}"), &room_after)?;

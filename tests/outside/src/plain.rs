@@ -59,8 +59,11 @@ fn add_row(bits: &mut Bits, target: usize, source: usize) {
     }
 }
 
-/// the reduced form, one column after the other, and its pivots
-pub fn reduced(matrix: &Bits, columns: usize) -> (Bits, Vec<usize>) {
+/// a reduced form and its pivots
+pub type Reduced = (Bits, Vec<usize>);
+
+/// one column after the other
+pub fn reduced(matrix: &Bits, columns: usize) -> Reduced {
     let mut bits = matrix.clone();
     let mut pivots = Vec::new();
     for column in 0..columns {
@@ -179,7 +182,7 @@ pub fn solved(packets: &Bits, columns: usize, n: usize, k: usize) -> (Vec<u64>, 
     (to_words(&form, columns), told)
 }
 
-pub fn reduction(matrix: &Bits, columns: usize, k: usize) -> (Answer, Vec<u64>) {
-    let (form, pivots) = reduced(matrix, columns);
-    (Answer::told(&pivots, columns, k, 0), to_words(&form, columns))
+/// what the reduction answers, and the words that it leaves
+pub fn reduction((form, pivots): &Reduced, columns: usize, k: usize) -> (Answer, Vec<u64>) {
+    (Answer::told(pivots, columns, k, 0), to_words(form, columns))
 }

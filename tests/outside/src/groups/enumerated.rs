@@ -1,6 +1,7 @@
 //! All inputs of small sizes, none left out.
 
 use super::packets::{all_images, both_calls, named};
+use super::reduction::every_k;
 use super::{ensure, Tried};
 use crate::make;
 use crate::plain::{self, Bits};
@@ -16,10 +17,7 @@ pub fn matrices(random: &mut Random) -> Tried {
     for columns in 1..=12 {
         for rows in 0..=12 / columns {
             for number in 0..1 << (rows * columns) {
-                let bits = numbered(number, rows, columns);
-                for k in 1..=8 {
-                    make::reduce(random, &bits, columns, k).check()?;
-                }
+                every_k(random, &numbered(number, rows, columns), columns)?;
             }
         }
     }

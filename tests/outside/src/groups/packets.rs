@@ -35,7 +35,7 @@ pub fn against_all_images(random: &mut Random) -> Tried {
 }
 
 pub fn middle(random: &mut Random) -> Tried {
-    for _ in 0..10_000 {
+    for _ in 0..15_000 {
         let (n, p) = (random.between(1, 80), random.between(1, 80));
         let rows = random.below(n + 12);
         let bits = make::packets(random, rows, n, p);
@@ -90,7 +90,7 @@ fn told_rightly(random: &mut Random, list: &Listed, p: usize, k: usize) -> Tried
 
 /// lists of an image, each change of each size, with every k
 pub fn changed_small(random: &mut Random) -> Tried {
-    for round in 0..12_000 {
+    for round in 0..20_000 {
         let (rows, n) = (random.of(&[0, 1, 2, 3, 5, 8, 9, 20, 64]), random.of(&[1, 2, 3, 8, 16, 64, 65]));
         let size = (rows, n, random.of(&[1, 2, 3, 63, 64, 65, 128]));
         let list = listed::changed(random, size, round % CHANGES);
