@@ -24,18 +24,26 @@ pub fn matrices(random: &mut Random) -> Tried {
     Ok(())
 }
 
-/// every square matrix of up to 4 rows; how many have an inverse is known
+/// whether it has an inverse
+fn inverted(random: &mut Random, bits: &Bits, k: usize) -> Result<bool, String> {
+    let inverse = make::invert(random, bits, k).check()?.1;
+    let undone = inverse.iter().all(|inverse| plain::product(bits, inverse) == plain::identity(bits.len()));
+    ensure(undone, || format!("the product with {bits:?} is not the identity"))?;
+    Ok(inverse.is_some())
+}
+
+/// every square matrix of up to 3 rows with every k, and of 4 rows with any; how many have an inverse is known
 pub fn squares(random: &mut Random) -> Tried {
-    for (size, right) in [(1, 1), (2, 6), (3, 168), (4, 20_160)] {
+    for (size, right) in [(1, 8), (2, 8 * 6), (3, 8 * 168), (4, 20_160)] {
         let mut found = 0;
         for number in 0..1 << (size * size) {
             let bits = numbered(number, size, size);
-            let (refusal, inverse) = make::invert(random, &bits, number % 8 + 1).check()?;
-            found += usize::from(refusal == 0);
-            let undone = inverse.map_or(true, |inverse| plain::product(&bits, &inverse) == plain::identity(size));
-            ensure(undone, || format!("the product with matrix {number} of size {size} is not the identity"))?;
+            let any = random.between(1, 8);
+            for k in if size < 4 { 1..=8 } else { any..=any } {
+                found += usize::from(inverted(random, &bits, k)?);
+            }
         }
-        ensure(found == right, || format!("{found} matrices of size {size} have an inverse, where {right} do"))?;
+        ensure(found == right, || format!("{found} times an inverse of size {size}, where there are {right}"))?;
     }
     Ok(())
 }
@@ -54,7 +62,8 @@ pub fn lists(random: &mut Random) -> Tried {
     for (n, p) in (1..=4).flat_map(|n| (1..=3).map(move |p| (n, p))) {
         for rows in 0..=12 / (n + p) {
             for number in 0..1 << (rows * (n + p)) {
-                list(random, &numbered(number, rows, n + p), n, p, number % 8 + 1)?;
+                let k = random.between(1, 8);
+                list(random, &numbered(number, rows, n + p), n, p, k)?;
             }
         }
     }

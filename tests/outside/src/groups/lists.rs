@@ -1,5 +1,5 @@
-//! Two lists of packets, of which the second has every packet of the first: a longer one knows as much, and order and repeats change
-//! nothing. The second is solved with any k.
+//! Two lists of packets, of which the second has every packet of the first: a longer one knows as much, and order and repeats
+//! change nothing. The second is solved with any k.
 
 use super::{ensure, Tried};
 use crate::calls::Solved;

@@ -1,5 +1,5 @@
-//! Every set of faults of a bundle of two entries: the first in the order of the checks is told. Those of the first entry come before
-//! those of the second, and what entry and unpacking check comes last.
+//! Every set of faults of a bundle of two entries: the first in the order of the checks is told. Those of the first entry come
+//! before those of the second, and what entry and unpacking check comes last.
 
 use super::bundles::check;
 use super::refusals::{every_set, Provoked};

@@ -1,5 +1,5 @@
-//! Solving against all images, against the image that a list was made from, and against the plain reduction; contradictions, and what
-//! the packets named do.
+//! Solving against all images, against the image that a list was made from, and against the plain reduction; contradictions, and
+//! what the packets named do.
 
 use super::{ensure, Tried};
 use crate::calls::Solved;

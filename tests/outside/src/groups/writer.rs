@@ -87,8 +87,8 @@ pub fn refusals(random: &mut Random) -> Tried {
     })
 }
 
-/// lists of 2, 64, no and 65 elements and such as differ by one; both entries good or not; words too few and too many; padding that is
-/// clean or not; an output that fits or is a byte short
+/// lists of 2, 64, no and 65 elements and such as differ by one; both entries good or not; words too few and too many; padding that
+/// is clean or not; an output that fits or is a byte short
 pub fn grid(random: &mut Random) -> Tried {
     for number in 0..4 * 5 * 16 * 3 * 4 * 2 {
         let mut case = Case(number);
@@ -115,8 +115,8 @@ pub fn grid(random: &mut Random) -> Tried {
     Ok(())
 }
 
-/// rows of the second of two entries, its kind, words more than there should be, bytes of output, whether a padding bit is set, and the
-/// refusal due: 65,534 bytes are written, 65,542 are too many whatever the output
+/// rows of the second of two entries, its kind, words more than there should be, bytes of output, whether a padding bit is set, and
+/// the refusal due: 65,534 bytes are written, 65,542 are too many whatever the output
 const NEAR_THE_LIMIT: [(u16, u16, isize, usize, bool, u64); 12] = [
     (13, 1, 0, 65_534, false, 0),
     (13, 1, 0, 65_600, false, 0),
