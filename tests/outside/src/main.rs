@@ -62,6 +62,7 @@ const GROUPS: &[(&str, &[Part])] = &[
     ("bundles: every set of faults of two entries", &[orders::reading]),
     ("bundles: every set of faults of a place", &[orders::places]),
     ("bundles: numbers past every bound", &[bundles::limits]),
+    ("bundles: padding of every entry, read and written", &[bundles::padding, writer::padding_of_each]),
     ("bundles: writer", &[writer::good]),
     ("bundles: every set of the writer's refusals", &[writer::refusals, writer::entry_by_entry]),
     ("bundles: lists of every length, near the limit", &[writer::grid, writer::near_the_limit]),

@@ -103,9 +103,20 @@ pub fn damage(random: &mut Random, bytes: &mut Vec<u8>) {
     }
 }
 
+pub fn padded(entry: &Entry) -> bool {
+    entry.rows > 0 && entry.columns % 64 != 0
+}
+
 /// a column past the last one of some row: the row's last word, and the place in it by the order of kind 1; there must be padding
 pub fn padding(random: &mut Random, entry: &Entry) -> (usize, usize) {
     let (width, used) = (words_of(entry.columns.into()), usize::from(entry.columns % 64));
     let row = random.below(entry.rows.into());
     (row * width + width - 1, random.between(used, 63))
+}
+
+/// sets a padding bit of the entry whose body starts there
+pub fn soil(random: &mut Random, bytes: &mut [u8], entry: &Entry, start: usize) {
+    let (word, column) = padding(random, entry);
+    let bit = if entry.kind == 1 { column } else { 63 - column };
+    bytes[start + 8 * word + bit / 8] |= 1 << (bit % 8);
 }

@@ -2,7 +2,7 @@
 
 use super::{ensure, Tried};
 use crate::bundle_calls::Bundle;
-use crate::make_bundles::{bytes_of, damage, entries, little, longest, of_shapes, planned, put, MODES};
+use crate::make_bundles::{bytes_of, damage, entries, little, longest, of_shapes, padded, planned, put, soil, MODES};
 use crate::random::Random;
 
 /// every call that reads, on any bytes; gives the refusal of reading
@@ -116,6 +116,23 @@ pub fn every_byte(random: &mut Random) -> Tried {
                 check(random, &bytes)?;
             }
             bytes[at] = own;
+        }
+    }
+    Ok(())
+}
+
+/// a padding bit of each entry in turn, in bundles of many shapes
+pub fn padding(random: &mut Random) -> Tried {
+    for list in planned(random) {
+        let whole = bytes_of(&list);
+        let mut start = 2 + 10 * list.len();
+        for entry in &list {
+            if padded(entry) {
+                let mut bytes = whole.clone();
+                soil(random, &mut bytes, entry, start);
+                refused(random, &bytes, 5)?;
+            }
+            start += 8 * entry.words.len();
         }
     }
     Ok(())

@@ -5,7 +5,7 @@ use super::bundles::check;
 use super::refusals::{every_set, Provoked};
 use super::{ensure, Tried};
 use crate::bundle_calls::Bundle;
-use crate::make_bundles::{bytes_of, damage, entries, entry, padding, put};
+use crate::make_bundles::{bytes_of, damage, entries, entry, put, soil};
 use crate::plain_bundle::{self, Entry};
 use crate::random::Random;
 
@@ -33,9 +33,7 @@ fn spoil_entry(random: &mut Random, provoked: &Provoked, bytes: &mut [u8], list:
         put(bytes, head + 6, random.of(&[0, start - 1, start + 1, start + 8, start + 256, start + 65_536]), 4);
     }
     if provoked.at(faults + 4) {
-        let (word, column) = padding(random, &list[e]);
-        let bit = if list[e].kind == 1 { column } else { 63 - column };
-        bytes[start + 8 * word + bit / 8] |= 1 << (bit % 8);
+        soil(random, bytes, &list[e], start);
     }
 }
 

@@ -4,7 +4,7 @@ use super::grids::Case;
 use super::refusals::{every_set, Provoked};
 use super::{ensure, Tried};
 use crate::bundle_calls::write;
-use crate::make_bundles::{bytes_of, entries, entry, padding, planned};
+use crate::make_bundles::{bytes_of, entries, entry, padded, padding, planned};
 use crate::plain::words_of;
 use crate::plain_bundle::{self, Entry, Lists};
 use crate::random::Random;
@@ -145,6 +145,21 @@ pub fn near_the_limit(random: &mut Random) -> Tried {
             lists.words.resize((lists.words.len() as isize + more) as usize, 0);
             let (answer, _) = write(&lists, &random.bytes(room))?;
             ensure(answer.refusal == wanted, || format!("writer near the limit: {} for {wanted}", answer.refusal))?;
+        }
+    }
+    Ok(())
+}
+
+/// a padding bit of each entry in turn, in bundles of many shapes
+pub fn padding_of_each(random: &mut Random) -> Tried {
+    for list in planned(random) {
+        let room = bytes_of(&list).len();
+        for e in (0..list.len()).filter(|&e| padded(&list[e])) {
+            let mut other = list.clone();
+            let (word, bit) = padding(random, &list[e]);
+            other[e].words[word] |= 1 << bit;
+            let (answer, _) = write(&Lists::of(&other), &random.bytes(room))?;
+            ensure(answer.refusal == 5, || format!("writer: {} for a padding bit of entry {e}", answer.refusal))?;
         }
     }
     Ok(())
