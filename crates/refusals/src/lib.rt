@@ -285,6 +285,16 @@ pub fn dirty_padding(m: &[u64], rows: usize, columns: usize) -> Outcome
     refuse_if(!holds(m, rows, columns), Refusal::DirtyPadding)
 }
 
+// the check of the padding, behind others: no word of the matrix is read unless all of these have passed
+fn then_padding(earlier: Outcome, m: &[u64], rows: usize, columns: usize) -> Outcome
+    ensures { λ r. ⌜ r ≡ earlier andThen dirtyPadding rows columns (now (m .entry)) ⌝ }
+{
+    match earlier {
+        Outcome::Refused(r) => Outcome::Refused(r),
+        Outcome::Done => dirty_padding(m, rows, columns),
+    }
+}
+
 // the row view's checks
 pub fn view(rows: usize, columns: usize, len: usize, i: usize) -> Outcome
     ensures { λ r. ⌜ r ≡ viewChecks rows columns len i ⌝ }
@@ -305,7 +315,7 @@ pub fn reduction(m: &[u64], rows: usize, columns: usize, k: usize, room: usize) 
     let size = wrong_length(rows, columns, m.len());
     let short = short_room(0, k, columns, room);
     let p = o.and_then(size).and_then(short);
-    p.and_then(dirty_padding(m, rows, columns))
+    then_padding(p, m, rows, columns)
 }
 
 // the inverse's checks of numbers and lengths
@@ -337,7 +347,7 @@ pub fn inverse(
         // only now can the sum of the two numbers not wrap
         Outcome::Done => {
             let p = short_room(rows, k, rows + columns, room);
-            p.and_then(dirty_padding(m, rows, columns))
+            then_padding(p, m, rows, columns)
         }
     }
 }
@@ -368,9 +378,9 @@ pub fn solving(
     let p = o.and_then(bad_k(k))
         .and_then(wrong_length(rows, columns, m.len()))
         .and_then(wrong_buffer(n, past(columns, n), image));
-    p.and_then(wrong_marks(n, marks))
-        .and_then(short_room(0, k, columns, room))
-        .and_then(dirty_padding(m, rows, columns))
+    let q = p.and_then(wrong_marks(n, marks))
+        .and_then(short_room(0, k, columns, room));
+    then_padding(q, m, rows, columns)
 }
 
 // the contradiction call's checks of numbers and lengths
@@ -410,7 +420,7 @@ pub fn contradiction(
         // only now can the sum of the two numbers not wrap
         Outcome::Done => {
             let p = short_room(rows, k, columns + rows, room);
-            p.and_then(dirty_padding(m, rows, columns))
+            then_padding(p, m, rows, columns)
         }
     }
 }

@@ -1,5 +1,5 @@
 -- Refused by the checks of numbers and lengths, or the others decide.
-use mathlib.Core.Path.{sym, ap₂, _∙_}
+use mathlib.Core.Path.{refl, sym, ap₂, _∙_}
 use Prim.Native.Nat.{_+_}
 use denote.Ref.{now}
 use lib.ListN.{length}
@@ -28,11 +28,8 @@ add-short-room c =
 short-room-requires : tie.Need-short-room-requires
 short-room-requires c κs = tt
 
-dirty-padding-requires : tie.Need-dirty-padding-requires
-dirty-padding-requires c κs = tt
-
-and-then-requires : tie.Need-and-then-requires
-and-then-requires c κs = tt
+then-padding-requires : tie.Need-then-padding-requires
+then-padding-requires c κs = tt
 
 returns : tie.Need-returns
 returns c =
@@ -41,9 +38,9 @@ returns c =
 
 returns-2 : tie.Need-returns-2
 returns-2 c =
-    let g = c .before .before .before .before .before .before .before .args in
-    c .and-then .ensures ∙ ap₂ _andThen_ (c .before .before .short-room .ensures) (c .before .dirty-padding .ensures)
-    ∙ goes-on (inverseShape (g .rows) (g .columns) (g .k) (length (now (g .m))) (g .result)) (shortRoom (g .rows) (g .k) (g .rows + g .columns) (g .room)) (dirtyPadding (g .rows) (g .columns) (now (g .m))) (sym (c .before .before .before .before .before .inverse-shape .ensures) ∙ c .before .before .before .enum-told .given .1)
+    let g = c .before .before .before .before .before .before .args in
+    c .then-padding .ensures ∙ ap₂ _andThen_ (c .before .short-room .ensures) refl
+    ∙ goes-on (inverseShape (g .rows) (g .columns) (g .k) (length (now (g .m))) (g .result)) (shortRoom (g .rows) (g .k) (g .rows + g .columns) (g .room)) (dirtyPadding (g .rows) (g .columns) (now (g .m))) (sym (c .before .before .before .before .inverse-shape .ensures) ∙ c .before .before .enum-told .given .1)
 
 pub inverse-spec : {M : Type 1} → statement M
 inverse-spec =
@@ -54,7 +51,6 @@ inverse-spec =
     enum-told
     add-short-room
     short-room-requires
-    dirty-padding-requires
-    and-then-requires
+    then-padding-requires
     returns
     returns-2)

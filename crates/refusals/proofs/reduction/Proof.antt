@@ -1,5 +1,5 @@
 -- The checks in order.
-use mathlib.Core.Path.{ap₂, _∙_}
+use mathlib.Core.Path.{refl, ap₂, _∙_}
 use Rattle.refusals.specs.Outcome.{_andThen_}
 use Rattle.refusals.proofs.reduction.Statement.{statement}
 use Rattle.refusals.proofs.reduction.Tie as tie
@@ -31,20 +31,17 @@ and-then-requires-3 c κs = tt
 and-then-requires-4 : tie.Need-and-then-requires-4
 and-then-requires-4 c κs = tt
 
-dirty-padding-requires : tie.Need-dirty-padding-requires
-dirty-padding-requires c κs = tt
-
-and-then-requires-5 : tie.Need-and-then-requires-5
-and-then-requires-5 c κs = tt
+then-padding-requires : tie.Need-then-padding-requires
+then-padding-requires c κs = tt
 
 returns : tie.Need-returns
 returns c =
-    c .and-then5 .ensures
-    ∙ ap₂ _andThen_ (c .before .before .and-then4 .ensures
-    ∙ ap₂ _andThen_ (c .before .before .before .and-then3 .ensures
-    ∙ ap₂ _andThen_ (c .before .before .before .before .before .before .and-then2 .ensures
-    ∙ ap₂ _andThen_ (c .before .before .before .before .before .before .before .before .and-then .ensures
-    ∙ ap₂ _andThen_ (c .before .before .before .before .before .before .before .before .before .before .too-many-rows .ensures) (c .before .before .before .before .before .before .before .before .before .bad-columns .ensures)) (c .before .before .before .before .before .before .before .bad-k .ensures)) (c .before .before .before .before .before .wrong-length .ensures)) (c .before .before .before .before .short-room .ensures)) (c .before .dirty-padding .ensures)
+    c .then-padding .ensures
+    ∙ ap₂ _andThen_ (c .before .and-then4 .ensures
+    ∙ ap₂ _andThen_ (c .before .before .and-then3 .ensures
+    ∙ ap₂ _andThen_ (c .before .before .before .before .before .and-then2 .ensures
+    ∙ ap₂ _andThen_ (c .before .before .before .before .before .before .before .and-then .ensures
+    ∙ ap₂ _andThen_ (c .before .before .before .before .before .before .before .before .before .too-many-rows .ensures) (c .before .before .before .before .before .before .before .before .bad-columns .ensures)) (c .before .before .before .before .before .before .bad-k .ensures)) (c .before .before .before .before .wrong-length .ensures)) (c .before .before .before .short-room .ensures)) refl
 
 pub reduction-spec : {M : Type 1} → statement M
 reduction-spec =
@@ -59,6 +56,5 @@ reduction-spec =
     short-room-requires
     and-then-requires-3
     and-then-requires-4
-    dirty-padding-requires
-    and-then-requires-5
+    then-padding-requires
     returns)

@@ -2,7 +2,7 @@
 use Rattle.refusals.specs.Checks.{wrongBuffer}
 use Rattle.refusals.specs.Outcome.{_andThen_}
 use Prim.Native.Nat.{ℕ}
-use mathlib.Core.Path.{ap, ap₂, _∙_}
+use mathlib.Core.Path.{refl, ap, ap₂, _∙_}
 use Rattle.refusals.proofs.solving.Statement.{statement}
 use Rattle.refusals.proofs.solving.Tie as tie
 
@@ -54,14 +54,11 @@ short-room-requires c κs = tt
 and-then-requires-7 : tie.Need-and-then-requires-7
 and-then-requires-7 c κs = tt
 
-dirty-padding-requires : tie.Need-dirty-padding-requires
-dirty-padding-requires c κs = tt
-
-and-then-requires-8 : tie.Need-and-then-requires-8
-and-then-requires-8 c κs = tt
+then-padding-requires : tie.Need-then-padding-requires
+then-padding-requires c κs = tt
 
 returns : tie.Need-returns
-returns c = let g = c .before .before .before .before .before .before .before .before .before .before .before .before .before .before .before .before .before .before .before .args in c .and-then8 .ensures ∙ ap₂ _andThen_ (c .before .before .and-then7 .ensures ∙ ap₂ _andThen_ (c .before .before .before .before .and-then6 .ensures ∙ ap₂ _andThen_ (c .before .before .before .before .before .before .and-then5 .ensures ∙ ap₂ _andThen_ (c .before .before .before .before .before .before .before .before .before .and-then4 .ensures ∙ ap₂ _andThen_ (c .before .before .before .before .before .before .before .before .before .before .before .and-then3 .ensures ∙ ap₂ _andThen_ (c .before .before .before .before .before .before .before .before .before .before .before .before .before .and-then2 .ensures ∙ ap₂ _andThen_ (c .before .before .before .before .before .before .before .before .before .before .before .before .before .before .before .and-then .ensures ∙ ap₂ _andThen_ (c .before .before .before .before .before .before .before .before .before .before .before .before .before .before .before .before .before .too-many-rows .ensures) (c .before .before .before .before .before .before .before .before .before .before .before .before .before .before .before .before .bad-columns .ensures)) (c .before .before .before .before .before .before .before .before .before .before .before .before .before .before .bad-blocks .ensures)) (c .before .before .before .before .before .before .before .before .before .before .before .before .bad-k .ensures)) (c .before .before .before .before .before .before .before .before .before .before .wrong-length .ensures)) (c .before .before .before .before .before .before .before .wrong-buffer .ensures ∙ ap (λ (p : ℕ). wrongBuffer (g .n) p (g .image)) (c .before .before .before .before .before .before .before .before .past .ensures))) (c .before .before .before .before .before .wrong-marks .ensures)) (c .before .before .before .short-room .ensures)) (c .before .dirty-padding .ensures)
+returns c = let g = c .before .before .before .before .before .before .before .before .before .before .before .before .before .before .before .before .before .before .args in c .then-padding .ensures ∙ ap₂ _andThen_ (c .before .and-then7 .ensures ∙ ap₂ _andThen_ (c .before .before .before .and-then6 .ensures ∙ ap₂ _andThen_ (c .before .before .before .before .before .and-then5 .ensures ∙ ap₂ _andThen_ (c .before .before .before .before .before .before .before .before .and-then4 .ensures ∙ ap₂ _andThen_ (c .before .before .before .before .before .before .before .before .before .before .and-then3 .ensures ∙ ap₂ _andThen_ (c .before .before .before .before .before .before .before .before .before .before .before .before .and-then2 .ensures ∙ ap₂ _andThen_ (c .before .before .before .before .before .before .before .before .before .before .before .before .before .before .and-then .ensures ∙ ap₂ _andThen_ (c .before .before .before .before .before .before .before .before .before .before .before .before .before .before .before .before .too-many-rows .ensures) (c .before .before .before .before .before .before .before .before .before .before .before .before .before .before .before .bad-columns .ensures)) (c .before .before .before .before .before .before .before .before .before .before .before .before .before .bad-blocks .ensures)) (c .before .before .before .before .before .before .before .before .before .before .before .bad-k .ensures)) (c .before .before .before .before .before .before .before .before .before .wrong-length .ensures)) (c .before .before .before .before .before .before .wrong-buffer .ensures ∙ ap (λ (p : ℕ). wrongBuffer (g .n) p (g .image)) (c .before .before .before .before .before .before .before .past .ensures))) (c .before .before .before .before .wrong-marks .ensures)) (c .before .before .short-room .ensures)) refl
 
 pub solving-spec : {M : Type 1} → statement M
 solving-spec =
@@ -83,6 +80,5 @@ solving-spec =
     and-then-requires-6
     short-room-requires
     and-then-requires-7
-    dirty-padding-requires
-    and-then-requires-8
+    then-padding-requires
     returns)
