@@ -6,7 +6,7 @@ use std::process::Command;
 
 fn build_archive(root: &Path) {
     let status = Command::new("rt").args(["staticlib", "chhayublo"]).current_dir(root).status();
-    let built = status.as_ref().is_ok_and(|status| status.success());
+    let built = status.as_ref().map_or(false, |status| status.success());
     assert!(built, "`rt staticlib chhayublo` in {} failed: {status:?}; or set CHHAYUBLO_LIB_DIR", root.display());
 }
 

@@ -34,5 +34,5 @@ pub use room::Room;
 
 /// Words of a row of that many columns.
 pub fn words(columns: usize) -> usize {
-    columns.div_ceil(64)
+    columns / 64 + usize::from(columns % 64 != 0)
 }

@@ -1,6 +1,6 @@
 //! Tests from outside: the archive's calls and the program `reduce` against a plain model, over inputs from fixed seeds.
-//! `outside PROGRAM [WORD]`: with a word, only the groups whose names have it. The last line is 'N passed, M failed', and the line
-//! before it tells how many inputs there were.
+//! `outside PROGRAM [WORD] [--share N]`: with a word, only the groups whose names have it; with a share, one in N of the inputs.
+//! The last line is 'N passed, M failed', and the line before it tells how many inputs there were.
 
 mod bundle_calls;
 mod calls;
@@ -15,6 +15,7 @@ mod plain;
 mod plain_bundle;
 mod random;
 mod raw;
+mod share;
 
 use groups::{
     bundles, enumerated, grids, inverse, lists, orders, packets, program, reduction, refusals, sheet, views, writer, Tried,
@@ -74,6 +75,7 @@ const GROUPS: &[(&str, &[Part])] = &[
 /// all parts of a group, each with numbers of its own
 fn try_all(seed: usize, parts: &[Part]) -> Tried {
     for (place, part) in parts.iter().enumerate() {
+        share::begin();
         part(&mut Random::new((seed * 16 + place + 1) as u64))?;
     }
     Ok(())
@@ -91,12 +93,25 @@ fn passes(place: usize, name: &str, parts: &[Part]) -> bool {
     tried.is_ok()
 }
 
+/// the word, or none; sets the share
+fn arguments() -> String {
+    let mut given: Vec<String> = std::env::args().skip(2).collect();
+    if let Some(place) = given.iter().position(|argument| argument == "--share") {
+        let number = given.drain(place..).nth(1).and_then(|text| text.parse().ok()).filter(|&number| number > 0);
+        share::choose(number.expect("--share N, N above 0"));
+    }
+    given.into_iter().next().unwrap_or_default()
+}
+
 fn main() {
-    let word = std::env::args().nth(2).unwrap_or_default();
+    let word = arguments();
     let chosen = GROUPS.iter().enumerate().filter(|(_, (name, _))| name.contains(&word));
     let results: Vec<bool> = chosen.map(|(place, (name, parts))| passes(place, name, parts)).collect();
     let passed = results.iter().filter(|passed| **passed).count();
-    println!("{} inputs in all", count::so_far());
+    match share::one_in() {
+        1 => println!("{} inputs in all", count::so_far()),
+        n => println!("{} inputs in all, a share: one in {n}, but each set of refusals or faults once", count::so_far()),
+    }
     println!("{passed} passed, {} failed", results.len() - passed);
     std::process::exit(i32::from(passed != results.len()));
 }

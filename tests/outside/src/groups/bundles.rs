@@ -4,6 +4,7 @@ use super::{ensure, Tried};
 use crate::bundle_calls::Bundle;
 use crate::make_bundles::{bytes_of, damage, entries, little, longest, of_shapes, padded, planned, put, soil, MODES};
 use crate::random::Random;
+use crate::share;
 
 /// every call that reads, on any bytes; gives the refusal of reading
 pub fn check(random: &mut Random, given: &[u8]) -> Result<u64, String> {
@@ -37,12 +38,12 @@ fn refused(random: &mut Random, bytes: &[u8], wanted: u64) -> Tried {
 }
 
 pub fn good(random: &mut Random) -> Tried {
-    for round in 0..3000 {
+    for round in share::rounds(3000) {
         let most = if round % 50 == 0 { 64 } else { 5 };
         let list = entries(random, most);
         accepted(random, &bytes_of(&list))?;
     }
-    for list in planned(random) {
+    for list in share::of(planned(random)) {
         accepted(random, &bytes_of(&list))?;
     }
     Ok(())
@@ -50,7 +51,7 @@ pub fn good(random: &mut Random) -> Tried {
 
 /// each entry into words that are too few and too many, and entries that are none
 pub fn places(random: &mut Random) -> Tried {
-    for _ in 0..400 {
+    for _ in share::rounds(400) {
         let bytes = bytes_of(&entries(random, 4));
         let bundle = Bundle::new(&bytes);
         let count = bundle.count();
@@ -74,7 +75,7 @@ pub fn places(random: &mut Random) -> Tried {
 }
 
 pub fn cut(random: &mut Random) -> Tried {
-    for round in 0..150 {
+    for round in share::rounds(150) {
         let list = if round < MODES { little(random, round) } else { entries(random, 4) };
         let whole = bytes_of(&list);
         for length in 0..whole.len() {
@@ -91,7 +92,7 @@ pub fn cut(random: &mut Random) -> Tried {
 
 pub fn damaged(random: &mut Random) -> Tried {
     let mut seen = std::collections::BTreeSet::new();
-    for _ in 0..20_000 {
+    for _ in share::rounds(20_000) {
         let list = entries(random, 4);
         let mut bytes = bytes_of(&list);
         for _ in 0..random.between(1, 3) {
@@ -111,7 +112,7 @@ pub fn every_byte(random: &mut Random) -> Tried {
         for at in 0..bytes.len() {
             let own = bytes[at];
             let turned = (0..8).map(|bit| own ^ 1 << bit);
-            for other in [0, 1, 2, 3, 255, own.wrapping_add(1)].into_iter().chain(turned) {
+            for other in share::of([0, 1, 2, 3, 255, own.wrapping_add(1)].into_iter().chain(turned)) {
                 bytes[at] = other;
                 check(random, &bytes)?;
             }
@@ -123,7 +124,7 @@ pub fn every_byte(random: &mut Random) -> Tried {
 
 /// a padding bit of each entry in turn, in bundles of many shapes
 pub fn padding(random: &mut Random) -> Tried {
-    for list in planned(random) {
+    for list in share::of(planned(random)) {
         let whole = bytes_of(&list);
         let mut start = 2 + 10 * list.len();
         for entry in &list {

@@ -1,4 +1,4 @@
-//! All inputs of small sizes, none left out.
+//! All inputs of small sizes, none left out (but where a share is asked for).
 
 use super::packets::{all_images, both_calls, named};
 use super::reduction::every_k;
@@ -6,6 +6,7 @@ use super::{ensure, Tried};
 use crate::make;
 use crate::plain::{self, Bits};
 use crate::random::Random;
+use crate::share;
 
 /// the matrix whose bits, row by row, are those of the number
 fn numbered(number: usize, rows: usize, columns: usize) -> Bits {
@@ -16,7 +17,7 @@ fn numbered(number: usize, rows: usize, columns: usize) -> Bits {
 pub fn matrices(random: &mut Random) -> Tried {
     for columns in 1..=12 {
         for rows in 0..=12 / columns {
-            for number in 0..1 << (rows * columns) {
+            for number in share::of(0..1 << (rows * columns)) {
                 every_k(random, &numbered(number, rows, columns), columns)?;
             }
         }
@@ -32,18 +33,19 @@ fn inverted(random: &mut Random, bits: &Bits, k: usize) -> Result<bool, String> 
     Ok(inverse.is_some())
 }
 
-/// every square matrix of up to 3 rows with every k, and of 4 rows with any; how many have an inverse is known
+/// every square matrix of up to 3 rows with every k, and of 4 rows with any; how many have an inverse is known where all are tried
 pub fn squares(random: &mut Random) -> Tried {
     for (size, right) in [(1, 8), (2, 8 * 6), (3, 8 * 168), (4, 20_160)] {
+        let all = size < 4 || share::is_all();
         let mut found = 0;
-        for number in 0..1 << (size * size) {
+        for number in (0..1 << (size * size)).filter(|_| all || share::turn()) {
             let bits = numbered(number, size, size);
             let any = random.between(1, 8);
             for k in if size < 4 { 1..=8 } else { any..=any } {
                 found += usize::from(inverted(random, &bits, k)?);
             }
         }
-        ensure(found == right, || format!("{found} times an inverse of size {size}, where there are {right}"))?;
+        ensure(found == right || !all, || format!("{found} times an inverse of size {size}, where there are {right}"))?;
     }
     Ok(())
 }
@@ -61,7 +63,7 @@ fn list(random: &mut Random, bits: &Bits, n: usize, p: usize, k: usize) -> Tried
 pub fn lists(random: &mut Random) -> Tried {
     for (n, p) in (1..=4).flat_map(|n| (1..=3).map(move |p| (n, p))) {
         for rows in 0..=12 / (n + p) {
-            for number in 0..1 << (rows * (n + p)) {
+            for number in share::of(0..1 << (rows * (n + p))) {
                 let k = random.between(1, 8);
                 list(random, &numbered(number, rows, n + p), n, p, k)?;
             }

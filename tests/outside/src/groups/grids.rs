@@ -5,6 +5,7 @@ use crate::calls::{Contradict, Invert, Reduce, Solve};
 use crate::checks::Numbers;
 use crate::plain::words_of;
 use crate::random::Random;
+use crate::share;
 
 /// half of the numbers there are, and the last one
 const HALF: usize = 1 << 63;
@@ -125,7 +126,7 @@ fn matrix(random: &mut Random, case: &mut Case, x: Numbers) -> Vec<u64> {
 pub fn reduce(random: &mut Random) -> Tried {
     let rows = [0, 1, 3, 512, 513, HALF - 1, HALF, LAST];
     let columns = [0, 1, 63, 64, 65, 1023, 1024, 1025, HALF, LAST];
-    for number in 0..8 * 10 * 8 * 6 * 5 * 6 {
+    for number in share::of(0..8 * 10 * 8 * 6 * 5 * 6) {
         let mut case = Case(number);
         let x = Numbers { rows: case.of(&rows), columns: case.of(&columns), n: 0, k: case.of(&K) };
         let matrix = matrix(random, &mut case, x);
@@ -137,7 +138,7 @@ pub fn reduce(random: &mut Random) -> Tried {
 
 /// each eleventh choice: no length of a list has that factor, so that every item meets every other
 pub fn invert(random: &mut Random) -> Tried {
-    for number in (0..24 * 8 * 6 * 5 * 6 * 6).step_by(11) {
+    for number in share::of((0..24 * 8 * 6 * 5 * 6 * 6).step_by(11)) {
         let mut case = Case(number);
         let x = numbers(&mut case, &SQUARES);
         let matrix = matrix(random, &mut case, x);
@@ -150,7 +151,7 @@ pub fn invert(random: &mut Random) -> Tried {
 
 /// each forty-third choice
 pub fn solve(random: &mut Random) -> Tried {
-    for number in (0..38 * 8 * 6 * 5 * 6 * 6 * 6).step_by(43) {
+    for number in share::of((0..38 * 8 * 6 * 5 * 6 * 6 * 6).step_by(43)) {
         let mut case = Case(number);
         let x = numbers(&mut case, &LISTS);
         let packets = matrix(random, &mut case, x);
@@ -164,7 +165,7 @@ pub fn solve(random: &mut Random) -> Tried {
 
 /// each thirteenth choice
 pub fn contradiction(random: &mut Random) -> Tried {
-    for number in (0..38 * 8 * 6 * 5 * 6 * 6).step_by(13) {
+    for number in share::of((0..38 * 8 * 6 * 5 * 6 * 6).step_by(13)) {
         let mut case = Case(number);
         let x = numbers(&mut case, &LISTS);
         let packets = matrix(random, &mut case, x);

@@ -7,6 +7,7 @@ use crate::listed::{self, Listed, CHANGES};
 use crate::make;
 use crate::plain::{words_of, Bits};
 use crate::random::Random;
+use crate::share;
 
 fn solve(random: &mut Random, bits: &Bits, n: usize, p: usize) -> Result<Solved, String> {
     let k = random.between(1, 8);
@@ -58,7 +59,7 @@ fn grown(random: &mut Random, list: &Listed, rows: usize, p: usize) -> Tried {
 }
 
 pub fn growths(random: &mut Random) -> Tried {
-    for round in 0..8000 {
+    for round in share::rounds(8000) {
         let (rows, n, p) = shape(random, round);
         let more = random.below(25);
         let list = listed::changed(random, (rows + more, n, p), round % CHANGES);
@@ -68,7 +69,7 @@ pub fn growths(random: &mut Random) -> Tried {
 }
 
 pub fn order_and_repeats(random: &mut Random) -> Tried {
-    for round in 0..8000 {
+    for round in share::rounds(8000) {
         let (rows, n, p) = shape(random, round);
         let list = listed::changed(random, (rows, n, p), round % CHANGES).packets;
         let other = repeated(random, &list, (rows / 2).min(512 - rows));

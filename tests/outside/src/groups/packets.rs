@@ -7,6 +7,7 @@ use crate::listed::{self, Listed, CHANGES};
 use crate::make;
 use crate::plain::{self, words_of, Bits};
 use crate::random::Random;
+use crate::share;
 
 /// what solving told, held to all images there are
 pub fn all_images(solved: &Solved, bits: &Bits, n: usize, p: usize) -> Tried {
@@ -22,7 +23,7 @@ pub fn all_images(solved: &Solved, bits: &Bits, n: usize, p: usize) -> Tried {
 }
 
 pub fn against_all_images(random: &mut Random) -> Tried {
-    for _ in 0..40_000 {
+    for _ in share::rounds(40_000) {
         let n = random.between(1, 6);
         let p = random.between(1, (10 / n).max(1));
         let rows = random.below(8);
@@ -35,7 +36,7 @@ pub fn against_all_images(random: &mut Random) -> Tried {
 }
 
 pub fn middle(random: &mut Random) -> Tried {
-    for _ in 0..15_000 {
+    for _ in share::rounds(15_000) {
         let (n, p) = (random.between(1, 80), random.between(1, 80));
         let rows = random.below(n + 12);
         let bits = make::packets(random, rows, n, p);
@@ -90,7 +91,7 @@ fn told_rightly(random: &mut Random, list: &Listed, p: usize, k: usize) -> Tried
 
 /// lists of an image, each change of each size, with every k
 pub fn changed_small(random: &mut Random) -> Tried {
-    for round in 0..20_000 {
+    for round in share::rounds(20_000) {
         let (rows, n) = (random.of(&[0, 1, 2, 3, 5, 8, 9, 20, 64]), random.of(&[1, 2, 3, 8, 16, 64, 65]));
         let size = (rows, n, random.of(&[1, 2, 3, 63, 64, 65, 128]));
         let list = listed::changed(random, size, round % CHANGES);
@@ -104,7 +105,7 @@ pub fn changed_large(random: &mut Random) -> Tried {
     let mut round = 0;
     for n in [200, 511, 512, 513, 1023] {
         for p in [1, 2, 63, 64, 65, 128, 1024 - n] {
-            for rows in [20, 64, 200, 512] {
+            for rows in share::of([20, 64, 200, 512]) {
                 let list = listed::changed(random, (rows, n, p.min(1024 - n)), round % CHANGES);
                 let k = random.between(1, 8);
                 told_rightly(random, &list, p.min(1024 - n), k)?;
@@ -118,7 +119,7 @@ pub fn changed_large(random: &mut Random) -> Tried {
 pub fn large(random: &mut Random) -> Tried {
     let shapes = [(512, 512, 512), (512, 1, 1023), (512, 300, 724), (512, 500, 64), (400, 64, 64), (512, 64, 960), (0, 1023, 1)];
     for (rows, n, p) in shapes {
-        for how in 0..CHANGES {
+        for how in share::of(0..CHANGES) {
             let list = listed::changed(random, (rows, n, p), how);
             let k = random.between(1, 8);
             told_rightly(random, &list, p, k)?;
@@ -128,7 +129,7 @@ pub fn large(random: &mut Random) -> Tried {
 }
 
 pub fn contradictions_small(random: &mut Random) -> Tried {
-    for _ in 0..25_000 {
+    for _ in share::rounds(25_000) {
         let (n, p) = (random.between(1, 9), random.between(1, 9));
         let rows = random.below(14);
         let bits = make::packets(random, rows, n, p);
@@ -160,7 +161,7 @@ pub fn contradictions_large(random: &mut Random) -> Tried {
         (0, 1, 1023),
     ];
     for (rows, n, p) in shapes {
-        for how in 0..CHANGES {
+        for how in share::of(0..CHANGES) {
             let list = listed::changed(random, (rows, n, p), how);
             let k = random.between(1, 8);
             told_rightly(random, &list, p, k)?;
@@ -172,7 +173,7 @@ pub fn contradictions_large(random: &mut Random) -> Tried {
 /// the two plain solvers against each other, so that the one that serves large lists is itself held to the images: no input of the
 /// library
 pub fn models_agree(random: &mut Random) -> Tried {
-    for _ in 0..6000 {
+    for _ in share::rounds(6000) {
         let n = random.between(1, 5);
         let p = random.between(1, 2);
         let rows = random.below(7);

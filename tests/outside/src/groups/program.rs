@@ -5,6 +5,7 @@ use crate::count;
 use crate::make_bundles::{bytes_of, damage, entries, entry};
 use crate::plain_bundle::{self, Entry};
 use crate::random::Random;
+use crate::share;
 use std::fs::{self, File};
 use std::io::Write;
 use std::path::PathBuf;
@@ -74,7 +75,7 @@ fn some_bundle(random: &mut Random, round: usize) -> Vec<u8> {
 }
 
 pub fn files(random: &mut Random) -> Tried {
-    for round in 0..300 {
+    for round in share::rounds(300) {
         by_file(&some_bundle(random, round))?;
     }
     let large = [vec![entry(random, 511, 1024)], vec![entry(random, 512, 960), entry(random, 509, 64)]];
@@ -85,11 +86,11 @@ pub fn files(random: &mut Random) -> Tried {
 }
 
 pub fn pieces(random: &mut Random) -> Tried {
-    for round in 0..120 {
+    for round in share::rounds(120) {
         let bytes = some_bundle(random, round);
         by_pipe(&bytes, random.between(1, 1 + bytes.len() / 2), Duration::ZERO)?;
     }
-    for round in 0..12 {
+    for round in share::rounds(12) {
         let bytes = some_bundle(random, round);
         by_pipe(&bytes, 1 + bytes.len() / 6, Duration::from_millis(4))?;
     }

@@ -7,6 +7,7 @@ use crate::checks::Numbers;
 use crate::make;
 use crate::plain::{self, words_of, Bits};
 use crate::random::Random;
+use crate::share;
 
 const REDUCE: [u64; 6] = [1, 2, 3, 4, 6, 5];
 const INVERT: [u64; 9] = [1, 2, 8, 3, 4, 13, 6, 5, 9];
@@ -38,7 +39,7 @@ impl Provoked<'_> {
 }
 
 pub fn every_set(order: &[u64], rounds: usize, mut answer: impl FnMut(&Provoked) -> Result<u64, String>) -> Tried {
-    for _ in 0..rounds {
+    for _ in share::rounds(rounds) {
         for set in 0..1 << order.len() {
             let provoked = Provoked { order, set };
             let got = answer(&provoked)?;

@@ -7,6 +7,7 @@ use crate::checks::Numbers;
 use crate::make::{self, BORDERS};
 use crate::plain::{to_words, words_of};
 use crate::random::Random;
+use crate::share;
 
 const ORDER: [u64; 4] = [1, 2, 4, 12];
 
@@ -57,7 +58,7 @@ pub fn grid(random: &mut Random) -> Tried {
     for rows in numbers_of_rows {
         for columns in numbers_of_columns {
             let whole = shape(rows.min(514), columns.min(1088)).matrix_words() as usize;
-            for length in [whole, whole + 1, whole.saturating_sub(1), 0] {
+            for length in share::of([whole, whole + 1, whole.saturating_sub(1), 0]) {
                 let matrix = random.words(length);
                 for i in [0, 1, rows / 2, rows.wrapping_sub(1), rows, rows.wrapping_add(1), 1 << 58, 1 << 63, usize::MAX] {
                     calls::row_view(shape(rows, columns), &matrix, i)?;

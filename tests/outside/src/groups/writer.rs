@@ -9,9 +9,10 @@ use crate::plain::words_of;
 use crate::plain_bundle::{self, Entry, Lists};
 use crate::random::Random;
 use crate::raw;
+use crate::share;
 
 pub fn good(random: &mut Random) -> Tried {
-    for round in 0..8000 {
+    for round in share::rounds(8000) {
         let list = entries(random, if round % 20 == 0 { 64 } else { 6 });
         let length = bytes_of(&list).len() + random.of(&[0, 0, 1, 5, 100]);
         let (answer, _) = write(&Lists::of(&list), &random.bytes(length))?;
@@ -90,7 +91,7 @@ pub fn refusals(random: &mut Random) -> Tried {
 /// lists of 2, 64, no and 65 elements and such as differ by one; both entries good or not; words too few and too many; padding that
 /// is clean or not; an output that fits or is a byte short
 pub fn grid(random: &mut Random) -> Tried {
-    for number in 0..4 * 5 * 16 * 3 * 4 * 2 {
+    for number in share::of(0..4 * 5 * 16 * 3 * 4 * 2) {
         let mut case = Case(number);
         let count: usize = case.of(&[2, 64, 0, 65]);
         let fewer = count.saturating_sub(1);
@@ -133,7 +134,7 @@ const NEAR_THE_LIMIT: [(u16, u16, isize, usize, bool, u64); 12] = [
 ];
 
 pub fn near_the_limit(random: &mut Random) -> Tried {
-    for _ in 0..20 {
+    for _ in share::rounds(20) {
         let first = entry(random, 511, 1000);
         for (rows, kind, more, room, dirty, wanted) in NEAR_THE_LIMIT {
             let mut second = entry(random, rows.into(), 37);
@@ -152,7 +153,7 @@ pub fn near_the_limit(random: &mut Random) -> Tried {
 
 /// a padding bit of each entry in turn, in bundles of many shapes
 pub fn padding_of_each(random: &mut Random) -> Tried {
-    for list in planned(random) {
+    for list in share::of(planned(random)) {
         let room = bytes_of(&list).len();
         for e in (0..list.len()).filter(|&e| padded(&list[e])) {
             let mut other = list.clone();
@@ -167,7 +168,7 @@ pub fn padding_of_each(random: &mut Random) -> Tried {
 
 /// 24 of an earlier entry stands before 23 of a later one
 pub fn entry_by_entry(random: &mut Random) -> Tried {
-    for _ in 0..1000 {
+    for _ in share::rounds(1000) {
         let mut list = entries(random, 6);
         list.extend([entry(random, 1, 3), entry(random, 1, 3)]);
         let mut lists = Lists::of(&list);
@@ -204,14 +205,14 @@ fn there_and_back(random: &mut Random, list: &[Entry]) -> Tried {
 }
 
 pub fn round_trips(random: &mut Random) -> Tried {
-    for round in 0..3000 {
+    for round in share::rounds(3000) {
         let list = match round % 300 {
             0 => vec![entry(random, 512, 960), entry(random, 509, 64)],
             _ => entries(random, 8),
         };
         there_and_back(random, &list)?;
     }
-    for list in planned(random) {
+    for list in share::of(planned(random)) {
         there_and_back(random, &list)?;
     }
     Ok(())
