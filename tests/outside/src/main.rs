@@ -18,7 +18,7 @@ mod raw;
 mod share;
 
 use groups::{
-    bundles, enumerated, grids, inverse, lists, orders, packets, program, reduction, refusals, sheet, views, writer, Tried,
+    bundles, enumerated, grids, inverse, lists, orders, packets, program, reduction, refusals, sheet, unread, views, writer, Tried,
 };
 use random::Random;
 use std::panic::catch_unwind;
@@ -56,6 +56,7 @@ const GROUPS: &[(&str, &[Part])] = &[
     ("contradiction: named packets contradict, none if solvable", &[packets::contradictions_small, packets::contradictions_large]),
     ("contradiction: every set of refusals", &[refusals::contradiction]),
     ("contradiction: numbers around every bound", &[grids::contradiction]),
+    ("refusals before the padding's: no word of the matrix is read", &[unread::calls, unread::views]),
     ("bundles: good, of many shapes", &[bundles::good]),
     ("bundles: entries that are none, words too few and too many", &[bundles::places]),
     ("bundles: cut at every byte, and the longest", &[bundles::cut, bundles::lengths]),
