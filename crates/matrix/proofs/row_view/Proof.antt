@@ -1,5 +1,4 @@
 -- The checks passed: row i lies within the buffer, and the part begins there. Else the part is empty, and begins at the front.
-use mathlib.Core.Path.{refl}
 use denote.Ref.{now, ptr}
 use Rattle.matrix.proofs.Calls.{view-refused, refused-place, view-ends, view-shown, shown-place}
 use native.Mathlib.Omega.{arith}
@@ -30,27 +29,24 @@ words-requires c κs = search needs
 
 mul-a : tie.Need-mul-a
 mul-a c =
-    let start = c .before .before .before .before .before in
-    let g = start .args in
-    let checked = c .before .before .before .view in
-    let inside = view-ends (g .rows) (g .columns) (g .i) (now (g .m)) (checked .result) (checked .ensures) in
-    omega (arith, inside (c .words .result) (c .before .enum-told .given .1) (c .words .ensures), start .good .0 .0)
+    let b = c .before .before .before in
+    let g = b .before .before .args in
+    let ends = view-ends (g .rows) (g .columns) (g .i) (now (g .m)) (b .view .result) (search needs) (c .words .result) (search needs) (search needs) in
+    omega (arith, b .before .before .good .0 .0)
 
 add-e : tie.Need-add-e
 add-e c =
-    let start = c .before .before .before .before .before in
-    let g = start .args in
-    let checked = c .before .before .before .view in
-    let inside = view-ends (g .rows) (g .columns) (g .i) (now (g .m)) (checked .result) (checked .ensures) in
-    omega (arith, inside (c .words .result) (c .before .enum-told .given .1) (c .words .ensures), start .good .0 .0)
+    let b = c .before .before .before in
+    let g = b .before .before .args in
+    let ends = view-ends (g .rows) (g .columns) (g .i) (now (g .m)) (b .view .result) (search needs) (c .words .result) (search needs) (search needs) in
+    omega (arith, b .before .before .good .0 .0)
 
 mul-result : tie.Need-mul-result
 mul-result c =
-    let start = c .before .before .before .before .before in
-    let g = start .args in
-    let checked = c .before .before .before .view in
-    let inside = view-ends (g .rows) (g .columns) (g .i) (now (g .m)) (checked .result) (checked .ensures) in
-    omega (arith, inside (c .words .result) (c .before .enum-told .given .1) (c .words .ensures), start .good .0 .0)
+    let b = c .before .before .before in
+    let g = b .before .before .args in
+    let ends = view-ends (g .rows) (g .columns) (g .i) (now (g .m)) (b .view .result) (search needs) (c .words .result) (search needs) (search needs) in
+    omega (arith, b .before .before .good .0 .0)
 
 sub-result-2 : tie.Need-sub-result-2
 sub-result-2 c = search needs
@@ -60,30 +56,28 @@ part-result-start-2 c = search needs
 
 part-result-end-2 : tie.Need-part-result-end-2
 part-result-end-2 c =
-    let g = c .before .before .before .before .before .args in
-    let checked = c .before .before .before .view in
-    let inside = view-ends (g .rows) (g .columns) (g .i) (now (g .m)) (checked .result) (checked .ensures) in
-    omega (arith, inside (c .words .result) (c .before .enum-told .given .1) (c .words .ensures))
+    let b = c .before .before .before in
+    let g = b .before .before .args in
+    let ends = view-ends (g .rows) (g .columns) (g .i) (now (g .m)) (b .view .result) (search needs) (c .words .result) (search needs) (search needs) in
+    omega (arith, b .before .before .good .0 .0)
 
 returns : tie.Need-returns
 returns c =
-    let g = c .before .before .before .before .before .before .args in
-    let checked = c .before .before .before .before .view in
-    let refused = c .before .before .o .given .1 in (
-      view-refused (g .rows) (g .columns) (g .i) (now (g .m)) (checked .result) (checked .ensures) refused,
-      (refl, refused-place (g .rows) (g .columns) (g .i) (now (g .m)) (checked .result) (checked .ensures) (ptr (g .m) .1) refused),
-    )
+    let b = c .before .before .before .before in
+    let g = b .before .before .args in
+    let x = c .before .before .o .given .0 .0 in
+    let empty = view-refused (g .rows) (g .columns) (g .i) (now (g .m)) (b .view .result) (search needs) {x = x} (search needs) in
+    let front = refused-place (g .rows) (g .columns) (g .i) (now (g .m)) (b .view .result) (search needs) {x = x} (ptr (g .m) .1) (search needs) in
+    (search needs, (search needs, search needs))
 
 returns-2 : tie.Need-returns-2
 returns-2 c =
-    let g = c .before .before .before .before .before .before .args in
-    let checked = c .before .before .before .before .view in
-    let passed = c .before .before .enum-told .given .1 in
+    let b = c .before .before .before .before in
+    let g = b .before .before .args in
     let w = c .before .words .result in
-    let width = c .before .words .ensures in (
-      view-shown (g .rows) (g .columns) (g .i) (now (g .m)) (checked .result) (checked .ensures) w passed width,
-      (refl, shown-place (g .rows) (g .columns) (g .i) (now (g .m)) (checked .result) (checked .ensures) w (ptr (g .m) .1) passed width),
-    )
+    let shown = view-shown (g .rows) (g .columns) (g .i) (now (g .m)) (b .view .result) (search needs) w (search needs) (search needs) in
+    let place = shown-place (g .rows) (g .columns) (g .i) (now (g .m)) (b .view .result) (search needs) w (ptr (g .m) .1) (search needs) (search needs) in
+    (search needs, (search needs, search needs))
 
 pub row-view-spec : {M : Type 1} → statement M
 row-view-spec =
