@@ -1,18 +1,19 @@
-// Reads and stores of words at any place, and the numbers of a shape: all total.
+// Words and bits at any place of a buffer: all reads and stores are total. A row of so many columns takes whole words.
 pub const ONES: u64 = 18446744073709551615;
 
-pub fn get(s: &[u64], i: usize) -> u64 {
+pub const LAST: usize = 18446744073709551615;
+
+// what the buffers of a drawn try hold
+pub const WORDS: usize = 1024;
+
+pub const ROOM: usize = 4352;
+
+pub(crate) fn get(s: &[u64], i: usize) -> u64 {
     if i < s.len() { s[i] } else { 0 }
 }
 
-pub fn put(s: &mut [u64], i: usize, v: u64) {
-    if i < s.len() {
-        s[i] = v;
-    }
-}
-
-// the place of word j of row i, of rows of w words; a place in no buffer where the numbers are not those of a small matrix
-pub fn place(i: usize, w: usize, j: usize) -> usize {
+// i times w and j more; past every buffer where the numbers are not small
+pub(crate) fn place(i: usize, w: usize, j: usize) -> usize {
     if i <= 1024 {
         if w <= 1024 {
             if j <= 1024 {
@@ -20,73 +21,45 @@ pub fn place(i: usize, w: usize, j: usize) -> usize {
             }
         }
     }
-    18446744073709551615
+    LAST
 }
 
-pub fn pow2(k: usize) -> usize {
-    if k < 64 { 1 << k } else { 0 }
-}
-
-pub fn least(a: usize, b: usize) -> usize {
-    if a < b { a } else { b }
-}
-
-// one less, or 0
-pub fn less(n: usize) -> usize {
-    if n == 0 { 0 } else { n - 1 }
-}
-
-// the sum of small numbers; a number past every bound where one is not small
-pub fn sum(a: usize, b: usize) -> usize {
-    if a <= 65536 {
-        if b <= 65536 {
-            return a + b;
-        }
-    }
-    18446744073709551615
-}
-
-pub fn wide(x: usize) -> u64 {
-    x as u64
-}
-
-// the words of a row
-pub fn width(columns: usize) -> usize {
+// the words of so many rows
+pub(crate) fn words(rows: usize, columns: usize) -> usize {
     if columns % 64 == 0 {
-        columns / 64
+        place(rows, columns / 64, 0)
     } else {
-        columns / 64 + 1
+        place(rows, columns / 64 + 1, 0)
     }
 }
 
-// the bits of word j that stand in columns below c
-pub fn below(c: usize, j: usize) -> u64 {
-    if j < c / 64 {
-        return ONES;
+// the words of a room: so many rows and a table
+pub(crate) fn room(rows: usize, k: usize, columns: usize) -> usize {
+    words(place(1, if k < 64 { 1 << k } else { 0 }, rows), columns)
+}
+
+pub(crate) fn bit(m: &[u64], columns: usize, i: usize, c: usize) -> bool {
+    (get(m, place(i, words(1, columns), c / 64)) >> (c % 64)) % 2 == 1
+}
+
+// changes the bit in row i and column c, if `on`
+pub(crate) fn toggle(m: &mut [u64], columns: usize, i: usize, c: usize, on: bool) {
+    let p = place(i, words(1, columns), c / 64);
+    let v = get(m, p) ^ (if on { 1 << c % 64 } else { 0 });
+    if p < m.len() {
+        m[p] = v;
     }
-    if c / 64 < j {
-        return 0;
-    }
-    ONES ^ (ONES << (c % 64))
 }
 
 // the first n words, or none where there are fewer
-pub fn part(s: &[u64], n: usize) -> &[u64] {
-    if s.len() < n {
-        return &s[0..0];
-    }
-    &s[0..n]
-}
-
-pub fn part_mut(s: &mut [u64], n: usize) -> &mut [u64] {
+pub(crate) fn part(s: &mut [u64], n: usize) -> &mut [u64] {
     if s.len() < n {
         return &mut s[0..0];
     }
     &mut s[0..n]
 }
 
-// whether s is how t begins
-pub fn same(s: &[u64], t: &[u64]) -> bool {
+pub(crate) fn same(s: &[u64], t: &[u64]) -> bool {
     let n = s.len();
     let mut i = 0;
     while i < n {
@@ -98,22 +71,12 @@ pub fn same(s: &[u64], t: &[u64]) -> bool {
     true
 }
 
-pub fn copy(s: &[u64], t: &mut [u64]) {
+// whether that many words are zero, and the others all ones, with which each lent buffer begins
+pub(crate) fn zeroed(s: &[u64], zeros: usize) -> bool {
     let n = s.len();
     let mut i = 0;
     while i < n {
-        put(t, i, get(s, i));
-        i += 1;
-    }
-}
-
-// whether the first words, that many, are zero, and the rest are all ones
-pub fn zeros_then_ones(s: &[u64], zeros: usize) -> bool {
-    let n = s.len();
-    let mut i = 0;
-    while i < n {
-        let v = if i < zeros { 0 } else { ONES };
-        if get(s, i) != v {
+        if get(s, i) != (if i < zeros { 0 } else { ONES }) {
             return false;
         }
         i += 1;

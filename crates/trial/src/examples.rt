@@ -1,134 +1,94 @@
-// The sheet's examples of inverse, solving and contradiction, P4 to P10, and a list of no packets.
-use super::inversion;
-use super::keep;
-use super::marks;
-use super::naming;
-use super::shape;
-use super::solving;
-use super::tally::Tally;
+// Worked examples: the limits, padding, additions of full windows, and nothing at all.
+use super::buffer;
+use super::buffer::ONES;
+use super::calls;
+use super::draw;
+use super::judge;
 
-// Packets of three coefficients and two payload bits, column 0 at the low end, and what becomes of them. No packets named: they are not refused
-struct Example {
-    rows: usize,
-    packets: [u64; 3],
-    reduced: [u64; 3],
-    image: [u64; 3],
-    known: [u8; 3],
-    named: u64,
+// reduction, and solving with one block; the room is long enough for all limits
+fn limit(rows: usize, columns: usize, k: usize, due: u8) -> bool {
+    let s = draw::made(rows, columns, 1, k, 0, 1);
+    let mut m = [0u64; 8704];
+    let mut image = [0u64; 16];
+    let mut marks = [0u8; 1];
+    let mut room = [ONES; 8704];
+    let a = calls::reduce(&mut m, s, &mut room).outcome;
+    let b = calls::solve(&mut m, s, &mut image, &mut marks, &mut room).outcome;
+    a.number() == due && b.number() == due
 }
 
-fn same(a: [u64; 3], b: [u64; 3]) -> bool {
-    a[0] == b[0] && a[1] == b[1] && a[2] == b[2]
-}
-
-fn marked(a: [u8; 3], b: [u8; 3]) -> bool {
-    a[0] == b[0] && a[1] == b[1] && a[2] == b[2]
-}
-
-fn solved(
-    rows: usize,
-    packets: [u64; 3],
-    reduced: [u64; 3],
-    image: [u64; 3],
-    known: [u8; 3],
-) -> Example {
-    Example {
-        rows: rows,
-        packets: packets,
-        reduced: reduced,
-        image: image,
-        known: known,
-        named: 0,
+pub(crate) fn limits(t: usize) -> bool {
+    match t {
+        0 => limit(512, 1024, 8, 0),
+        1 => limit(513, 1024, 8, 1),
+        2 => limit(512, 1025, 8, 2),
+        3 => limit(512, 1024, 0, 3),
+        _ => limit(512, 1024, 9, 3),
     }
 }
 
-fn refused(rows: usize, packets: [u64; 3], reduced: [u64; 3], named: u64) -> Example {
-    Example {
-        rows: rows,
-        packets: packets,
-        reduced: reduced,
-        image: [0, 0, 0],
-        known: [0, 0, 0],
-        named: named,
+// The second row has a one at place c alone. A row view shows it; the reduction gives that number and rank, and the one stands in that row then.
+fn spot(rows: usize, columns: usize, c: usize, number: u8, rank: usize, row: usize) -> bool {
+    let s = draw::made(rows, columns, columns, 1, 0, 1);
+    let mut m = [0u64; 4];
+    let mut room = [ONES; 4];
+    buffer::toggle(&mut m, columns, 1, c, true);
+    let view = matrix::row_view(&m, rows, columns, 1);
+    let shown = view.len() == buffer::words(1, columns) && buffer::bit(view, columns, 0, c);
+    let a = calls::reduce(&mut m, s, &mut room);
+    let zeros = buffer::place(rank, buffer::words(2, columns), 0);
+    let kept = buffer::bit(&m, columns, row, c) & buffer::zeroed(&room, zeros);
+    shown & kept & judge::told(a, number, &m, s, rank, 0)
+}
+
+// rows of 64 columns have no padding, and those of 65 have 63 bits of it
+pub(crate) fn padding(t: usize) -> bool {
+    if t < 64 {
+        return spot(4, 64, t, 0, 1, 0);
+    }
+    if t == 64 {
+        return spot(2, 65, t, 0, 1, 0);
+    }
+    spot(2, 65, t, 5, 0, 1)
+}
+
+// 2^r - 1
+fn full(r: usize) -> usize {
+    if r < 64 {
+        buffer::LAST ^ (buffer::LAST << r)
+    } else {
+        0
     }
 }
 
-// P6 to P10, the last in two parts, and no packets at all
-fn of_sheet(n: usize) -> Example {
-    match n {
-        0 => solved(2, [11, 22, 0], [29, 22, 0], [0, 0, 0], [0, 0, 0]),
-        1 => solved(3, [11, 22, 28], [1, 10, 28], [0, 1, 3], [1, 1, 1]),
-        2 => solved(3, [11, 11, 28], [11, 28, 0], [0, 0, 3], [0, 0, 1]),
-        3 => refused(3, [11, 22, 13], [13, 6, 16], 7),
-        4 => refused(1, [16, 0, 0], [16, 0, 0], 1),
-        5 => solved(1, [0, 0, 0], [0, 0, 0], [0, 0, 0], [0, 0, 0]),
-        _ => solved(0, [0, 0, 0], [0, 0, 0], [0, 0, 0], [0, 0, 0]),
-    }
-}
-
-// whether the contradiction call names what it should
-fn named(e: Example, k: usize) -> bool {
-    let m = e.packets;
-    let mut names = [0u64; 1];
-    if !naming::right(&m, &mut names, shape::naming(e.rows, 5, 3, k), 0) {
+// a pivot in each of the first columns, as many as there are rows: windows are full until the rows are used up
+pub(crate) fn additions(rows: usize, columns: usize, k: usize) -> bool {
+    if k == 0 {
         return false;
     }
-    if e.named == 0 {
-        return e.rows == 0 || keep::first_kept(&names);
-    }
-    names[0] == e.named
+    let due = buffer::place(rows / k, full(k), full(rows % k));
+    let most = buffer::place(columns / k, full(k), full(columns % k));
+    let s = draw::made(rows, columns, columns, k, 2, 1);
+    let mut m = [0u64; 8192];
+    let mut room = [ONES; 4096];
+    draw::fill(&mut m, columns, s);
+    let a = calls::reduce(&mut m, s, &mut room);
+    a.rank == rows && a.additions == due && due <= most
 }
 
-// whether solving leaves what it should
-fn left(e: Example, k: usize) -> bool {
-    let mut m = e.packets;
-    let mut image = [0u64; 3];
-    let mut known = [0u8; 3];
-    let s = shape::solving(e.rows, 5, 3, k);
-    if !solving::right(&mut m, &mut image, &mut known, s, 0) {
-        return false;
-    }
-    let reduced = e.reduced;
-    if !same(m, reduced) {
-        return false;
-    }
-    if e.named != 0 {
-        return marks::refused(&known);
-    }
-    let blocks = e.image;
-    let bytes = e.known;
-    same(image, blocks) && marked(known, bytes)
-}
-
-// P4 has no inverse, and P5 has one
-fn inverted(has_one: bool, k: usize) -> bool {
-    let last = if has_one { 4 } else { 5 };
-    let m = [3, 6, last];
-    let mut result = [0u64; 3];
-    if !inversion::right(&m, &mut result, shape::inverse(3, 3, k), 0) {
-        return false;
-    }
-    if !has_one {
-        return keep::first_kept(&result);
-    }
-    same(result, [7, 6, 4])
-}
-
-fn case(n: usize, k: usize) -> bool {
-    if n < 2 {
-        return inverted(n == 1, k);
-    }
-    let e = of_sheet(n - 2);
-    named(e, k) && left(e, k)
-}
-
-// each of the nine with each k
-pub fn all() -> Tally {
-    let mut t = Tally::none();
-    let mut n = 0;
-    while n < 72 {
-        t = t.count(case(n / 8, n % 8 + 1));
-        n += 1;
-    }
-    t
+// no rows: rank 0, nothing known, none named, and no inverse, since there are columns
+pub(crate) fn empty(k: usize) -> bool {
+    let s = draw::made(0, 70, 3, k, 0, 1);
+    let mut m = [0u64; 1];
+    let mut out = [ONES; 1];
+    let mut image = [ONES; 6];
+    let mut marks = [170u8; 3];
+    let mut room = [ONES; 512];
+    let inverse = calls::invert(&mut m, s, &mut out, &mut room);
+    let verdict = calls::name(&mut m, s, &mut out, &mut room);
+    let a = calls::reduce(&mut m, s, &mut room);
+    let b = calls::solve(&mut m, s, &mut image, &mut marks, &mut room);
+    let blank = marks[0] == 0 && marks[1] == 0 && marks[2] == 0 && buffer::zeroed(&image, 6);
+    let empty = judge::told(a, 0, &m, s, 0, 0) && judge::told(b, 0, &m, s, 0, 0);
+    inverse == 8 && verdict == 0 && blank && empty
 }

@@ -1,66 +1,54 @@
-// Tries the library's calls on fixed matrices, and writes how many tries went wrong: none should.
+// Tries the library's calls on worked examples, and on drawn matrices against a plain reduction; writes how many tries went wrong: none should.
 mod buffer;
-mod call;
-mod contradictions;
-mod enumerations;
+mod calls;
+mod draw;
 mod examples;
-mod faults;
-mod fill;
-mod inverses;
-mod inversion;
-mod keep;
-mod lists;
-mod marks;
-mod naming;
-mod pairs;
+mod judge;
 mod plain;
-mod product;
-mod reductions;
-mod refused;
-mod refused_inverse;
-mod refused_naming;
-mod refused_solving;
-mod shape;
-mod sizes;
-mod solutions;
-mod solving;
-mod tally;
-mod views;
+mod tries;
 
-use tally::Tally;
+// whether try t of that group comes out right; in most t chooses k
+fn right(group: usize, t: usize) -> bool {
+    let k = t % 8 + 1;
+    match group {
+        0 => examples::limits(t),
+        1 => examples::padding(t),
+        2 => examples::additions(64, 64, k),
+        3 => examples::additions(512, 1024, 8),
+        4 => examples::additions(t, 8, 8),
+        5 => examples::empty(k),
+        6 => tries::solved(draw::made(12, 1024, 1023, k, 5, 3)),
+        7 => tries::reduced(draw::drawn(t, false, false)),
+        8 => tries::inverted(draw::drawn(t, true, false)),
+        9 => tries::solved(draw::drawn(t, false, true)),
+        _ => tries::named(draw::drawn(t, false, true)),
+    }
+}
 
-fn say(name: &[u8], t: Tally) {
+fn say(name: &[u8], group: usize, tries: usize) {
+    let mut wrong = 0;
+    let mut t = 0;
+    while t < tries {
+        wrong = std::num::wrapping_add_u64(wrong, if right(group, t) { 0 } else { 1 });
+        t += 1;
+    }
     io::write_all(1, name);
-    io::print_decimal(1, t.tried);
+    io::print_decimal(1, tries as u64);
     io::write_all(1, b" wrong ");
-    io::print_decimal(1, t.wrong);
+    io::print_decimal(1, wrong);
     io::write_all(1, b"\n");
 }
 
-fn matrices() {
-    say(b"reductions ", reductions::all());
-    say(b"refusals ", refused::all());
-    say(b"views ", views::all());
-    say(b"inverses ", inverses::all());
-    say(b"inverse refusals ", refused_inverse::all());
-}
-
-fn lists_solved() {
-    say(b"solutions ", solutions::all());
-    say(b"solving refusals ", refused_solving::all());
-    say(b"repeats ", pairs::all(false));
-    say(b"growths ", pairs::all(true));
-}
-
-fn lists_named() {
-    say(b"contradictions ", contradictions::all());
-    say(b"contradiction refusals ", refused_naming::all());
-    say(b"enumerations ", enumerations::all());
-    say(b"examples ", examples::all());
-}
-
 fn main() {
-    matrices();
-    lists_solved();
-    lists_named();
+    say(b"limits ", 0, 5);
+    say(b"padding ", 1, 128);
+    say(b"full windows ", 2, 8);
+    say(b"full windows at the limits ", 3, 1);
+    say(b"one window ", 4, 9);
+    say(b"no rows ", 5, 8);
+    say(b"1,023 blocks ", 6, 8);
+    say(b"reductions ", 7, 192);
+    say(b"inverses ", 8, 96);
+    say(b"solutions ", 9, 128);
+    say(b"contradictions ", 10, 128);
 }

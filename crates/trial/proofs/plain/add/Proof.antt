@@ -7,31 +7,25 @@ use Rattle.trial.proofs.plain.add.Statement.{statement}
 use Rattle.trial.proofs.plain.add.Tie as tie
 
 abbrev Inv-loop : tie.InvT-loop
-Inv-loop m₀ w from to j₀ m j = length m ≡ length m₀
+Inv-loop m₀ columns from to c wanted q₀ m q = length m ≡ length m₀
 
 abbrev μ-loop : tie.MeasureT-loop
-μ-loop m₀ w from to j₀ m j = w - j
+μ-loop m₀ columns from to c wanted q₀ m q = columns - q
+
+returns : tie.Need-returns Inv-loop μ-loop
+returns c = search needs
 
 loop-holds : tie.Need-loop-holds Inv-loop μ-loop
 loop-holds c = search needs
 
-place-requires : tie.Need-place-requires Inv-loop μ-loop
-place-requires c κs = search needs
+bit-requires : tie.Need-bit-requires Inv-loop μ-loop
+bit-requires c κs = search needs
 
-get-requires : tie.Need-get-requires Inv-loop μ-loop
-get-requires c κs = search needs
+toggle-requires : tie.Need-toggle-requires Inv-loop μ-loop
+toggle-requires c κs = search needs
 
-place-requires-2 : tie.Need-place-requires-2 Inv-loop μ-loop
-place-requires-2 c κs = search needs
-
-get-requires-2 : tie.Need-get-requires-2 Inv-loop μ-loop
-get-requires-2 c κs = search needs
-
-put-requires : tie.Need-put-requires Inv-loop μ-loop
-put-requires c κs = search needs
-
-add-j : tie.Need-add-j Inv-loop μ-loop
-add-j c = search needs
+add-q : tie.Need-add-q Inv-loop μ-loop
+add-q c = search needs
 
 loop-less : tie.Need-loop-less Inv-loop μ-loop
 loop-less c = search needs
@@ -42,8 +36,8 @@ loop-again c = search needs
 same-length : tie.Need-same-length Inv-loop μ-loop
 same-length c = search needs
 
-returns : tie.Need-returns Inv-loop μ-loop
-returns c = search needs
+returns-2 : tie.Need-returns-2 Inv-loop μ-loop
+returns-2 c = search needs
 
 pub add-spec : {M : Type 1} → statement M
 add-spec =
@@ -51,14 +45,12 @@ add-spec =
     (tie.spec
     Inv-loop
     μ-loop
+    returns
     loop-holds
-    place-requires
-    get-requires
-    place-requires-2
-    get-requires-2
-    put-requires
-    add-j
+    bit-requires
+    toggle-requires
+    add-q
     loop-less
     loop-again
     same-length
-    returns)
+    returns-2)

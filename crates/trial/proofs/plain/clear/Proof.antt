@@ -7,16 +7,19 @@ use Rattle.trial.proofs.plain.clear.Statement.{statement}
 use Rattle.trial.proofs.plain.clear.Tie as tie
 
 abbrev Inv-loop : tie.InvT-loop
-Inv-loop m₀ w rows p c i₀ m i = length m ≡ length m₀
+Inv-loop m₀ columns rows p c i₀ m i = length m ≡ length m₀
 
 abbrev μ-loop : tie.MeasureT-loop
-μ-loop m₀ w rows p c i₀ m i = rows - i
+μ-loop m₀ columns rows p c i₀ m i = rows - i
 
 loop-holds : tie.Need-loop-holds Inv-loop μ-loop
 loop-holds c = search needs
 
-clear-row-requires : tie.Need-clear-row-requires Inv-loop μ-loop
-clear-row-requires c κs = search needs
+bit-requires : tie.Need-bit-requires Inv-loop μ-loop
+bit-requires c κs = search needs
+
+add-requires : tie.Need-add-requires Inv-loop μ-loop
+add-requires c κs = search needs
 
 add-i : tie.Need-add-i Inv-loop μ-loop
 add-i c = search needs
@@ -40,7 +43,8 @@ clear-spec =
     Inv-loop
     μ-loop
     loop-holds
-    clear-row-requires
+    bit-requires
+    add-requires
     add-i
     loop-less
     loop-again

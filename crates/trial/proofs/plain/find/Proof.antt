@@ -5,10 +5,10 @@ use Rattle.trial.proofs.plain.find.Statement.{statement}
 use Rattle.trial.proofs.plain.find.Tie as tie
 
 abbrev Inv-loop : tie.InvT-loop
-Inv-loop m w rows from c i₀ i = Unit {0}
+Inv-loop m columns rows from c i₀ i = Unit {0}
 
 abbrev μ-loop : tie.MeasureT-loop
-μ-loop m w rows from c i₀ i = rows - i
+μ-loop m columns rows from c i₀ i = rows - i
 
 loop-holds : tie.Need-loop-holds Inv-loop μ-loop
 loop-holds c = search needs

@@ -1,4 +1,4 @@
--- The buffers keep their lengths from turn to turn.
+-- The buffer keeps its length from turn to turn.
 use Prim.Native.Nat.{_-_}
 use mathlib.Core.Path.{_≡_}
 use lib.ListN.{length}
@@ -7,13 +7,10 @@ use Rattle.trial.proofs.plain.reduce.Statement.{statement}
 use Rattle.trial.proofs.plain.reduce.Tie as tie
 
 abbrev Inv-loop : tie.InvT-loop
-Inv-loop m₀ rows columns pivots₀ w rank₀ c₀ m pivots rank c = (length m ≡ length m₀) × (length pivots ≡ length pivots₀)
+Inv-loop m₀ columns rows rank₀ c₀ m rank c = length m ≡ length m₀
 
 abbrev μ-loop : tie.MeasureT-loop
-μ-loop m₀ rows columns pivots₀ w rank₀ c₀ m pivots rank c = columns - c
-
-width-requires : tie.Need-width-requires Inv-loop μ-loop
-width-requires c κs = search needs
+μ-loop m₀ columns rows rank₀ c₀ m rank c = columns - c
 
 loop-holds : tie.Need-loop-holds Inv-loop μ-loop
 loop-holds c = search needs
@@ -33,9 +30,6 @@ loop-again c = search needs
 same-length : tie.Need-same-length Inv-loop μ-loop
 same-length c = search needs
 
-same-length-2 : tie.Need-same-length-2 Inv-loop μ-loop
-same-length-2 c = search needs
-
 returns : tie.Need-returns Inv-loop μ-loop
 returns c = search needs
 
@@ -45,12 +39,10 @@ reduce-spec =
     (tie.spec
     Inv-loop
     μ-loop
-    width-requires
     loop-holds
     column-requires
     add-c
     loop-less
     loop-again
     same-length
-    same-length-2
     returns)

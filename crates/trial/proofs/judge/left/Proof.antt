@@ -1,0 +1,46 @@
+-- No fact is kept between turns.
+use Prim.Native.Nat.{_-_}
+use borrow.Author.Needs.{needs}
+use Rattle.trial.proofs.judge.left.Statement.{statement}
+use Rattle.trial.proofs.judge.left.Tie as tie
+
+abbrev Inv-loop : tie.InvT-loop
+Inv-loop s i m columns rows a c₀ c = Unit {0}
+
+abbrev μ-loop : tie.MeasureT-loop
+μ-loop s i m columns rows a c₀ c = columns - c
+
+loop-holds : tie.Need-loop-holds Inv-loop μ-loop
+loop-holds c = search needs
+
+summed-requires : tie.Need-summed-requires Inv-loop μ-loop
+summed-requires c κs = search needs
+
+returns : tie.Need-returns Inv-loop μ-loop
+returns c = search needs
+
+add-c : tie.Need-add-c Inv-loop μ-loop
+add-c c = search needs
+
+loop-less : tie.Need-loop-less Inv-loop μ-loop
+loop-less c = search needs
+
+loop-again : tie.Need-loop-again Inv-loop μ-loop
+loop-again c = search needs
+
+returns-2 : tie.Need-returns-2 Inv-loop μ-loop
+returns-2 c = search needs
+
+pub left-spec : {M : Type 1} → statement M
+left-spec =
+    tie.close
+    (tie.spec
+    Inv-loop
+    μ-loop
+    loop-holds
+    summed-requires
+    returns
+    add-c
+    loop-less
+    loop-again
+    returns-2)
