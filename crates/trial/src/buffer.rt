@@ -26,16 +26,7 @@ pub(crate) fn place(i: usize, w: usize, j: usize) -> usize {
 
 // the words of so many rows
 pub(crate) fn words(rows: usize, columns: usize) -> usize {
-    if columns % 64 == 0 {
-        place(rows, columns / 64, 0)
-    } else {
-        place(rows, columns / 64 + 1, 0)
-    }
-}
-
-// the words of a room: so many rows and a table
-pub(crate) fn room(rows: usize, k: usize, columns: usize) -> usize {
-    words(place(1, if k < 64 { 1 << k } else { 0 }, rows), columns)
+    place(rows, std::num::wrapping_add_usize(columns, 63) / 64, 0)
 }
 
 pub(crate) fn bit(m: &[u64], columns: usize, i: usize, c: usize) -> bool {
@@ -82,4 +73,10 @@ pub(crate) fn zeroed(s: &[u64], zeros: usize) -> bool {
         i += 1;
     }
     true
+}
+
+// the same of a room, where so many rows and a table are needed
+pub(crate) fn cleared(room: &[u64], rows: usize, k: usize, columns: usize) -> bool {
+    let table = if k < 64 { 1 << k } else { 0 };
+    zeroed(room, words(place(1, table, rows), columns))
 }

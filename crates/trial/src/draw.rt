@@ -1,5 +1,6 @@
 // The generator, and the matrices and lists of packets that it draws.
 use super::buffer;
+use super::plain;
 use std::num;
 
 // The numbers of a call, the kind of its matrix, and the generator's start. Where there are no packets n is the columns.
@@ -56,15 +57,12 @@ pub(crate) fn drawn(t: usize, square: bool, list: bool) -> Case {
     let x = next(next(next((t as u64) << 8 | 129)));
     let y = next(x);
     let a = size(t / 8 % 12);
-    let b = size(number(y, 12));
-    let columns = if square {
-        a
-    } else {
-        num::wrapping_add_usize(a, b)
-    };
+    let sum = num::wrapping_add_usize(a, size(number(y, 12)));
+    let columns = if square { a } else { sum };
     let rows = if square { a } else { number(next(y), 70) };
     let n = if list { a } else { columns };
-    made(rows, columns, n, t % 8 + 1, number(next(next(y)), 6), x)
+    let kind = number(next(next(y)), if square { 3 } else { 6 });
+    made(rows, columns, n, t % 8 + 1, kind, x)
 }
 
 // Whether row i has a one in column c, where the bits before it are drawn. Payloads are sums of one image's blocks.
@@ -114,14 +112,21 @@ pub(crate) fn fill(m: &mut [u64], wide: usize, s: Case) {
     buffer::toggle(m, wide, rows / 2, columns - 1, number(s.x, 3) == 0);
 }
 
-// the matrix, with an identity on its right
-pub(crate) fn beside(m: &mut [u64], wide: usize, s: Case) {
-    fill(m, wide, s);
+// the columns of the matrix with an identity on its right
+pub(crate) fn wide(s: Case) -> usize {
+    buffer::place(1, s.columns, s.rows)
+}
+
+// the two beside each other, by the plain reduction
+pub(crate) fn beside(m: &mut [u64], s: Case) {
     let rows = s.rows;
     let columns = s.columns;
+    let wide = wide(s);
+    fill(m, wide, s);
     let mut i = 0;
     while i < rows {
         buffer::toggle(m, wide, i, num::wrapping_add_usize(columns, i), true);
         i += 1;
     }
+    plain::reduce(m, wide, rows);
 }

@@ -4,6 +4,7 @@ use super::buffer::ONES;
 use super::calls;
 use super::draw;
 use super::judge;
+use super::tries;
 
 // reduction, and solving with one block; the room is long enough for all limits
 fn limit(rows: usize, columns: usize, k: usize, due: u8) -> bool {
@@ -43,22 +44,16 @@ fn spot(rows: usize, columns: usize, c: usize, number: u8, rank: usize, row: usi
 
 // rows of 64 columns have no padding, and those of 65 have 63 bits of it
 pub(crate) fn padding(t: usize) -> bool {
-    if t < 64 {
-        return spot(4, 64, t, 0, 1, 0);
+    match t {
+        0..=63 => spot(4, 64, t, 0, 1, 0),
+        64 => spot(2, 65, t, 0, 1, 0),
+        _ => spot(2, 65, t, 5, 0, 1),
     }
-    if t == 64 {
-        return spot(2, 65, t, 0, 1, 0);
-    }
-    spot(2, 65, t, 5, 0, 1)
 }
 
 // 2^r - 1
 fn full(r: usize) -> usize {
-    if r < 64 {
-        buffer::LAST ^ (buffer::LAST << r)
-    } else {
-        0
-    }
+    buffer::LAST ^ (buffer::LAST << r % 64)
 }
 
 // a pivot in each of the first columns, as many as there are rows: windows are full until the rows are used up
@@ -80,15 +75,8 @@ pub(crate) fn additions(rows: usize, columns: usize, k: usize) -> bool {
 pub(crate) fn empty(k: usize) -> bool {
     let s = draw::made(0, 70, 3, k, 0, 1);
     let mut m = [0u64; 1];
-    let mut out = [ONES; 1];
-    let mut image = [ONES; 6];
-    let mut marks = [170u8; 3];
+    let mut result = [ONES; 1];
     let mut room = [ONES; 512];
-    let inverse = calls::invert(&mut m, s, &mut out, &mut room);
-    let verdict = calls::name(&mut m, s, &mut out, &mut room);
-    let a = calls::reduce(&mut m, s, &mut room);
-    let b = calls::solve(&mut m, s, &mut image, &mut marks, &mut room);
-    let blank = marks[0] == 0 && marks[1] == 0 && marks[2] == 0 && buffer::zeroed(&image, 6);
-    let empty = judge::told(a, 0, &m, s, 0, 0) && judge::told(b, 0, &m, s, 0, 0);
-    inverse == 8 && verdict == 0 && blank && empty
+    let number = calls::invert(&mut m, s, &mut result, &mut room);
+    (number == 8) & tries::reduced(s) & tries::solved(s) & tries::named(s)
 }

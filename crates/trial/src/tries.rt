@@ -13,16 +13,25 @@ use matrix::Answer;
 // what no call writes as a mark
 const STALE: u8 = 170;
 
+// the matrix by the plain reduction, and its rank
+fn foreseen(copy: &mut [u64], s: Case) -> usize {
+    draw::fill(copy, s.columns, s);
+    plain::reduce(copy, s.columns, s.rows)
+}
+
+// whether the matrix is as foreseen, and the room zero as far as it is needed
+fn left(m: &[u64], copy: &[u64], room: &[u64], s: Case) -> bool {
+    buffer::same(m, copy) && buffer::cleared(room, 0, s.k, s.columns)
+}
+
 pub(crate) fn reduced(s: Case) -> bool {
     let mut m = [0u64; WORDS];
     let mut copy = [0u64; WORDS];
     let mut room = [ONES; ROOM];
     draw::fill(&mut m, s.columns, s);
-    draw::fill(&mut copy, s.columns, s);
-    let rank = plain::reduce(&mut copy, s.columns, s.rows);
+    let rank = foreseen(&mut copy, s);
     let a = calls::reduce(&mut m, s, &mut room);
-    let kept = buffer::same(&m, &copy) & buffer::zeroed(&room, buffer::room(0, s.k, s.columns));
-    kept & judge::told(a, 0, &copy, s, rank, 0)
+    left(&m, &copy, &room, s) & judge::told(a, 0, &copy, s, rank, 0)
 }
 
 // whether the result is the right half of the reduced matrix beside an identity, and times m is the identity
@@ -40,36 +49,24 @@ fn undone(result: &[u64], m: &[u64], beside: &[u64], n: usize) -> bool {
     true
 }
 
+// whether number and result are right, by the plain reduced matrix beside an identity
+fn fitting(number: u8, result: &[u64], m: &[u64], beside: &[u64], s: Case) -> bool {
+    if plain::free_row(beside, draw::wide(s), s.rows, s.rows) < s.rows {
+        return number == 9 && buffer::zeroed(result, 0);
+    }
+    number == 0 && undone(result, m, beside, s.rows)
+}
+
 pub(crate) fn inverted(s: Case) -> bool {
-    let n = s.rows;
-    let wide = buffer::place(n, 2, 0);
     let mut m = [0u64; WORDS];
     let mut beside = [0u64; WORDS];
     let mut result = [ONES; WORDS];
     let mut room = [ONES; ROOM];
-    draw::fill(&mut m, n, s);
-    draw::beside(&mut beside, wide, s);
-    plain::reduce(&mut beside, wide, n);
+    draw::fill(&mut m, s.columns, s);
+    draw::beside(&mut beside, s);
     let number = calls::invert(&mut m, s, &mut result, &mut room);
-    let kept = buffer::zeroed(&room, buffer::room(n, s.k, wide));
-    if plain::free_row(&beside, wide, n, n) < n {
-        return kept & (number == 9) & buffer::zeroed(&result, 0);
-    }
-    kept & (number == 0) & undone(&result, &m, &beside, n)
-}
-
-// the row whose only coefficient is that of block j; or rank, and that row is zero
-fn row_of(m: &[u64], columns: usize, rank: usize, n: usize, j: usize) -> usize {
-    let next = std::num::wrapping_add_usize(j, 1);
-    let mut i = 0;
-    while i < rank {
-        let one = buffer::bit(m, columns, i, j) && plain::lead(m, columns, i, 0, n) == j;
-        if one && plain::lead(m, columns, i, next, n) == n {
-            return i;
-        }
-        i += 1;
-    }
-    rank
+    let clear = buffer::cleared(&room, s.rows, s.k, draw::wide(s));
+    clear & fitting(number, &result, &m, &beside, s)
 }
 
 fn mark(s: &[u8], i: usize) -> u8 {
@@ -87,16 +84,20 @@ fn marked(marks: &[u8], n: usize, v: u8) -> usize {
     sum
 }
 
-// whether marks and image are what the plain reduced packets say
+// whether marks and image are what the plain reduced packets say; row i has the next pivot, and the row after the last one is zero
 fn shown(m: &[u64], s: Case, rank: usize, image: &[u64], marks: &[u8]) -> bool {
     let n = s.n;
+    let mut i = 0;
     let mut j = 0;
     while j < n {
-        let i = row_of(m, s.columns, rank, n, j);
-        let one = if i < rank { 1 } else { 0 };
-        if mark(marks, j) != one || !judge::holds(image, j, m, s.columns, i, n) {
+        let here = plain::lead(m, s.columns, i, 0, n) == j;
+        let known = here && plain::lead(m, s.columns, i, j + 1, n) == n;
+        let row = if known { i } else { rank };
+        let one = if known { 1 } else { 0 };
+        if mark(marks, j) != one || !judge::holds(image, j, m, s.columns, row, n) {
             return false;
         }
+        i = std::num::wrapping_add_usize(i, if here { 1 } else { 0 });
         j += 1;
     }
     true
@@ -118,15 +119,14 @@ pub(crate) fn solved(s: Case) -> bool {
     let mut marks = [STALE; WORDS];
     let mut room = [ONES; ROOM];
     draw::fill(&mut m, s.columns, s);
-    draw::fill(&mut copy, s.columns, s);
-    let rank = plain::reduce(&mut copy, s.columns, s.rows);
+    let rank = foreseen(&mut copy, s);
     let a = calls::solve(&mut m, s, &mut image, &mut marks, &mut room);
-    let kept = buffer::same(&m, &copy) & buffer::zeroed(&room, buffer::room(0, s.k, s.columns));
-    kept & settled(a, &image, &marks, &copy, rank, s)
+    left(&m, &copy, &room, s) & settled(a, &image, &marks, &copy, rank, s)
 }
 
 // whether verdict and names are right, by the plain reduced packets beside an identity
-fn justly(told: u8, names: &[u64], m: &[u64], beside: &[u64], wide: usize, s: Case) -> bool {
+fn justly(told: u8, names: &[u64], m: &[u64], beside: &[u64], s: Case) -> bool {
+    let wide = draw::wide(s);
     let i = plain::free_row(beside, wide, s.rows, s.n);
     if i == s.rows || plain::lead(beside, wide, i, s.n, s.columns) == s.columns {
         return told == 0 && buffer::zeroed(names, 0);
@@ -138,15 +138,13 @@ fn justly(told: u8, names: &[u64], m: &[u64], beside: &[u64], wide: usize, s: Ca
 }
 
 pub(crate) fn named(s: Case) -> bool {
-    let wide = buffer::place(1, s.columns, s.rows);
     let mut m = [0u64; WORDS];
     let mut beside = [0u64; WORDS];
     let mut names = [ONES; 4];
     let mut room = [ONES; ROOM];
     draw::fill(&mut m, s.columns, s);
-    draw::beside(&mut beside, wide, s);
-    plain::reduce(&mut beside, wide, s.rows);
+    draw::beside(&mut beside, s);
     let told = calls::name(&mut m, s, &mut names, &mut room);
-    let kept = buffer::zeroed(&room, buffer::room(s.rows, s.k, wide));
-    kept & justly(told, &names, &m, &beside, wide, s)
+    let clear = buffer::cleared(&room, s.rows, s.k, draw::wide(s));
+    clear & justly(told, &names, &m, &beside, s)
 }

@@ -7,10 +7,13 @@ use Rattle.trial.proofs.draw.beside.Statement.{statement}
 use Rattle.trial.proofs.draw.beside.Tie as tie
 
 abbrev Inv-loop : tie.InvT-loop
-Inv-loop m₀ wide rows columns i₀ m i = length m ≡ length m₀
+Inv-loop m₀ rows columns wide i₀ m i = length m ≡ length m₀
 
 abbrev μ-loop : tie.MeasureT-loop
-μ-loop m₀ wide rows columns i₀ m i = rows - i
+μ-loop m₀ rows columns wide i₀ m i = rows - i
+
+wide-requires : tie.Need-wide-requires Inv-loop μ-loop
+wide-requires c κs = search needs
 
 fill-requires : tie.Need-fill-requires Inv-loop μ-loop
 fill-requires c κs = search needs
@@ -33,6 +36,9 @@ loop-less c = search needs
 loop-again : tie.Need-loop-again Inv-loop μ-loop
 loop-again c = search needs
 
+reduce-requires : tie.Need-reduce-requires Inv-loop μ-loop
+reduce-requires c κs = search needs
+
 same-length : tie.Need-same-length Inv-loop μ-loop
 same-length c = search needs
 
@@ -45,6 +51,7 @@ beside-spec =
     (tie.spec
     Inv-loop
     μ-loop
+    wide-requires
     fill-requires
     loop-holds
     wrapping-add-usize-requires
@@ -52,5 +59,6 @@ beside-spec =
     add-i
     loop-less
     loop-again
+    reduce-requires
     same-length
     returns)

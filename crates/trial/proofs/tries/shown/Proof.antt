@@ -5,16 +5,22 @@ use Rattle.trial.proofs.tries.shown.Statement.{statement}
 use Rattle.trial.proofs.tries.shown.Tie as tie
 
 abbrev Inv-loop : tie.InvT-loop
-Inv-loop m s rank image marks n j₀ j = Unit {0}
+Inv-loop m s rank image marks n i₀ j₀ i j = Unit {0}
 
 abbrev μ-loop : tie.MeasureT-loop
-μ-loop m s rank image marks n j₀ j = n - j
+μ-loop m s rank image marks n i₀ j₀ i j = n - j
 
 loop-holds : tie.Need-loop-holds Inv-loop μ-loop
 loop-holds c = search needs
 
-row-of-requires : tie.Need-row-of-requires Inv-loop μ-loop
-row-of-requires c κs = search needs
+lead-requires : tie.Need-lead-requires Inv-loop μ-loop
+lead-requires c κs = search needs
+
+add-lead : tie.Need-add-lead Inv-loop μ-loop
+add-lead c = search needs
+
+lead-requires-2 : tie.Need-lead-requires-2 Inv-loop μ-loop
+lead-requires-2 c κs = search needs
 
 mark-requires : tie.Need-mark-requires Inv-loop μ-loop
 mark-requires c κs = search needs
@@ -24,6 +30,9 @@ holds-requires c κs = search needs
 
 returns : tie.Need-returns Inv-loop μ-loop
 returns c = search needs
+
+wrapping-add-usize-requires : tie.Need-wrapping-add-usize-requires Inv-loop μ-loop
+wrapping-add-usize-requires c κs = search needs
 
 add-j : tie.Need-add-j Inv-loop μ-loop
 add-j c = search needs
@@ -44,10 +53,13 @@ shown-spec =
     Inv-loop
     μ-loop
     loop-holds
-    row-of-requires
+    lead-requires
+    add-lead
+    lead-requires-2
     mark-requires
     holds-requires
     returns
+    wrapping-add-usize-requires
     add-j
     loop-less
     loop-again
