@@ -6,25 +6,24 @@ use super::draw;
 use super::judge;
 use super::tries;
 
-// reduction, and solving with one block; the room is long enough for all limits
+// the room is long enough for each
 fn limit(rows: usize, columns: usize, k: usize, due: u8) -> bool {
-    let s = draw::made(rows, columns, 1, k, 0, 1);
     let mut m = [0u64; 8704];
-    let mut image = [0u64; 16];
-    let mut marks = [0u8; 1];
     let mut room = [ONES; 8704];
-    let a = calls::reduce(&mut m, s, &mut room).outcome;
-    let b = calls::solve(&mut m, s, &mut image, &mut marks, &mut room).outcome;
-    a.number() == due && b.number() == due
+    let s = draw::made(rows, columns, columns, k, 0, 1);
+    let outcome = calls::reduce(&mut m, s, &mut room).outcome;
+    outcome.number() == due
 }
 
+// what is at the limits and past each of them; at the limits 64 windows can be full
 pub(crate) fn limits(t: usize) -> bool {
     match t {
         0 => limit(512, 1024, 8, 0),
         1 => limit(513, 1024, 8, 1),
         2 => limit(512, 1025, 8, 2),
         3 => limit(512, 1024, 0, 3),
-        _ => limit(512, 1024, 9, 3),
+        4 => limit(512, 1024, 9, 3),
+        _ => additions(512, 1024, 8),
     }
 }
 

@@ -9,29 +9,23 @@ fn wide(x: u16) -> usize {
     x as usize
 }
 
-// whether the answer is that number, with the pivots and additions of a plain reduced matrix of that rank, and so many known blocks
-pub(crate) fn told(a: Answer, number: u8, m: &[u64], s: Case, rank: usize, known: usize) -> bool {
-    let outcome = a.outcome;
-    let k = s.k;
-    if outcome.number() != number || a.rank != rank || a.known != known {
-        return false;
-    }
+// the additions of a plain reduced matrix of that rank, if the pivots are its own; or LAST
+fn additions(pivots: &[u16; 512], m: &[u64], columns: usize, rank: usize, k: usize) -> usize {
     if k == 0 {
-        return false;
+        return buffer::LAST;
     }
-    let pivots = a.pivots;
     let mut sum = 0;
     let mut weight = 0;
-    let mut window = s.columns;
+    let mut window = columns;
     let mut i = 0;
     while i < 512 {
         let c = if i < rank {
-            plain::lead(m, s.columns, i, 0, s.columns)
+            plain::lead(m, columns, i, 0, columns)
         } else {
             65535
         };
         if wide(pivots[i]) != c {
-            return false;
+            return buffer::LAST;
         }
         // a window with r pivots costs 1 + 2 + .. + 2^(r - 1)
         let more = if c / k == window { weight << 1 } else { 1 };
@@ -40,7 +34,15 @@ pub(crate) fn told(a: Answer, number: u8, m: &[u64], s: Case, rank: usize, known
         sum = num::wrapping_add_usize(sum, weight);
         i += 1;
     }
-    a.additions == sum
+    sum
+}
+
+// whether the answer is that number, with the pivots and additions of a plain reduced matrix of that rank, and so many known blocks
+pub(crate) fn told(a: Answer, number: u8, m: &[u64], s: Case, rank: usize, known: usize) -> bool {
+    let outcome = a.outcome;
+    let pivots = a.pivots;
+    let sum = additions(&pivots, m, s.columns, rank, s.k);
+    outcome.number() == number && a.rank == rank && a.known == known && a.additions == sum
 }
 
 // whether row j of s is row i of m from column c on, with clean padding

@@ -14,13 +14,12 @@ fn right(group: usize, t: usize) -> bool {
         0 => examples::limits(t),
         1 => examples::padding(t),
         2 => examples::additions(64, 64, k),
-        3 => examples::additions(512, 1024, 8),
-        4 => examples::additions(t, 8, 8),
-        5 => examples::empty(k),
-        6 => tries::solved(draw::made(12, 1024, 1023, k, 5, 3)),
-        7 => tries::reduced(draw::drawn(t, false, false)),
-        8 => tries::inverted(draw::drawn(t, true, false)),
-        9 => tries::solved(draw::drawn(t, false, true)),
+        3 => examples::additions(t, 8, 8),
+        4 => examples::empty(k),
+        5 => tries::solved(draw::made(12, 1024, 1023, k, 5, 3)),
+        6 => tries::reduced(draw::drawn(t, false, false)),
+        7 => tries::inverted(draw::drawn(t, true, false)),
+        8 => tries::solved(draw::drawn(t, false, true)),
         _ => tries::named(draw::drawn(t, false, true)),
     }
 }
@@ -39,16 +38,23 @@ fn say(name: &[u8], group: usize, tries: usize) {
     io::write_all(1, b"\n");
 }
 
-fn main() {
-    say(b"limits ", 0, 5);
+fn examples_tried() {
+    say(b"limits ", 0, 6);
     say(b"padding ", 1, 128);
     say(b"full windows ", 2, 8);
-    say(b"full windows at the limits ", 3, 1);
-    say(b"one window ", 4, 9);
-    say(b"no rows ", 5, 8);
-    say(b"1,023 blocks ", 6, 8);
-    say(b"reductions ", 7, 192);
-    say(b"inverses ", 8, 96);
-    say(b"solutions ", 9, 128);
-    say(b"contradictions ", 10, 128);
+    say(b"one window ", 3, 9);
+    say(b"no rows ", 4, 8);
+    say(b"1,023 blocks ", 5, 8);
+}
+
+fn drawn_tried() {
+    say(b"reductions ", 6, 192);
+    say(b"inverses ", 7, 96);
+    say(b"solutions ", 8, 128);
+    say(b"contradictions ", 9, 128);
+}
+
+fn main() {
+    examples_tried();
+    drawn_tried();
 }
