@@ -15,7 +15,7 @@ pub(crate) fn get(s: &[u64], i: usize) -> u64 {
 // i times w and j more; past every buffer where the numbers are not small
 pub(crate) fn place(i: usize, w: usize, j: usize) -> usize {
     if i <= 1024 {
-        if w <= 1024 {
+        if w <= 2048 {
             if j <= 1024 {
                 return i * w + j;
             }

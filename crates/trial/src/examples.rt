@@ -6,24 +6,41 @@ use super::draw;
 use super::judge;
 use super::tries;
 
-// the room is long enough for each
-fn limit(rows: usize, columns: usize, k: usize, due: u8) -> bool {
-    let mut m = [0u64; 8704];
-    let mut room = [ONES; 8704];
-    let s = draw::made(rows, columns, columns, k, 0, 1);
-    let outcome = calls::reduce(&mut m, s, &mut room).outcome;
-    outcome.number() == due
+// 2^r - 1
+fn full(r: usize) -> usize {
+    buffer::LAST ^ (buffer::LAST << r % 64)
 }
 
-// what is at the limits and past each of them; at the limits 64 windows can be full
+// the additions of so many pivots that stand in the first columns, one in each
+fn due(pivots: usize, k: usize) -> usize {
+    if k == 0 {
+        return 0;
+    }
+    buffer::place(pivots / k, full(k), full(pivots % k))
+}
+
+// A matrix with a pivot in each of the first columns, as many as it has rows: windows are full until the rows are used up, and a
+// refusal comes with rank 0.
+pub(crate) fn additions(rows: usize, columns: usize, k: usize, number: u8) -> bool {
+    let pivots = if number == 0 { rows } else { 0 };
+    let s = draw::made(rows, columns, columns, k, 2, 1);
+    let mut m = [0u64; 8704];
+    let mut room = [ONES; 8704];
+    draw::fill(&mut m, columns, s);
+    let a = calls::reduce(&mut m, s, &mut room);
+    let outcome = a.outcome;
+    let sum = due(pivots, k);
+    outcome.number() == number && a.rank == pivots && a.additions == sum && sum <= due(columns, k)
+}
+
+// what is at the limits, and past each of them
 pub(crate) fn limits(t: usize) -> bool {
     match t {
-        0 => limit(512, 1024, 8, 0),
-        1 => limit(513, 1024, 8, 1),
-        2 => limit(512, 1025, 8, 2),
-        3 => limit(512, 1024, 0, 3),
-        4 => limit(512, 1024, 9, 3),
-        _ => additions(512, 1024, 8),
+        0 => additions(512, 1024, 8, 0),
+        1 => additions(513, 1024, 8, 1),
+        2 => additions(512, 1025, 8, 2),
+        3 => additions(512, 1024, 0, 3),
+        _ => additions(512, 1024, 9, 3),
     }
 }
 
@@ -48,26 +65,6 @@ pub(crate) fn padding(t: usize) -> bool {
         64 => spot(2, 65, t, 0, 1, 0),
         _ => spot(2, 65, t, 5, 0, 1),
     }
-}
-
-// 2^r - 1
-fn full(r: usize) -> usize {
-    buffer::LAST ^ (buffer::LAST << r % 64)
-}
-
-// a pivot in each of the first columns, as many as there are rows: windows are full until the rows are used up
-pub(crate) fn additions(rows: usize, columns: usize, k: usize) -> bool {
-    if k == 0 {
-        return false;
-    }
-    let due = buffer::place(rows / k, full(k), full(rows % k));
-    let most = buffer::place(columns / k, full(k), full(columns % k));
-    let s = draw::made(rows, columns, columns, k, 2, 1);
-    let mut m = [0u64; 8192];
-    let mut room = [ONES; 4096];
-    draw::fill(&mut m, columns, s);
-    let a = calls::reduce(&mut m, s, &mut room);
-    a.rank == rows && a.additions == due && due <= most
 }
 
 // no rows: rank 0, nothing known, none named, and no inverse, since there are columns

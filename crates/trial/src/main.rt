@@ -13,8 +13,8 @@ fn right(group: usize, t: usize) -> bool {
     match group {
         0 => examples::limits(t),
         1 => examples::padding(t),
-        2 => examples::additions(64, 64, k),
-        3 => examples::additions(t, 8, 8),
+        2 => examples::additions(64, 64, k, 0),
+        3 => examples::additions(t, 8, 8, 0),
         4 => examples::empty(k),
         5 => tries::solved(draw::made(12, 1024, 1023, k, 5, 3)),
         6 => tries::reduced(draw::drawn(t, false, false)),
@@ -39,7 +39,7 @@ fn say(name: &[u8], group: usize, tries: usize) {
 }
 
 fn examples_tried() {
-    say(b"limits ", 0, 6);
+    say(b"limits ", 0, 5);
     say(b"padding ", 1, 128);
     say(b"full windows ", 2, 8);
     say(b"one window ", 3, 9);

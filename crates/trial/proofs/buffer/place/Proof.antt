@@ -1,4 +1,4 @@
--- Numbers up to 1,024 have a small product.
+-- Small numbers have a small product.
 use Prim.Native.Nat.{ℕ, _*_, _≤_}
 use native.Mathlib.Nat.{mul-le-mul}
 use native.Mathlib.Omega.{arith}
@@ -6,7 +6,7 @@ use borrow.Author.Needs.{needs}
 use Rattle.trial.proofs.buffer.place.Statement.{statement}
 use Rattle.trial.proofs.buffer.place.Tie as tie
 
-few : (i w : ℕ) → i ≤ 1024 → w ≤ 1024 → i * w ≤ 1048576
+few : (i w : ℕ) → i ≤ 1024 → w ≤ 2048 → i * w ≤ 2097152
 few i w h g = omega (arith, mul-le-mul h g)
 
 mul-result : tie.Need-mul-result
