@@ -1,7 +1,16 @@
 /*
  * Chhayublo: dense linear algebra over GF(2), for C11 and C++17 on x86-64 Linux (System V ABI).
- * Link with target/staticlib/libchhayublo.a, which `rt staticlib chhayublo` writes. It needs memcpy, memmove and memset
+ * Link with target/staticlib/libchhayublo.a, which `rt staticlib chhayublo` writes. It needs memcpy and memset from elsewhere
  * and nothing else, keeps no state between calls and allocates nothing.
+ *
+ * VERSION
+ *   CHHAYUBLO_VERSION is the version of this header, chhayublo_version() that of the archive. Both grow by 1 with every change of
+ *   a struct or a call. Where they differ, make no other call: its structs may have another layout.
+ *
+ * THREADS AND STACK
+ *   Calls may run side by side in threads, as long as no buffer that one of them may write overlaps a buffer of another; each
+ *   needs a room of its own. Reduction, inverse, solving and contradiction take 4.2 to 5.4 KB of stack whatever the size of the
+ *   matrix, as measured on the archive; the other calls take less.
  *
  * MATRICES
  *   Up to 512 rows, none included, and 1 to 1024 columns. W = chhayublo_words(columns) words of 64 bits store a row, and the
@@ -45,6 +54,8 @@ extern "C" {
 #define CHHAYUBLO_STATIC_ASSERT _Static_assert
 #endif
 
+#define CHHAYUBLO_VERSION 1
+
 enum {
     CHHAYUBLO_MAX_ROWS = 512,
     CHHAYUBLO_MAX_COLUMNS = 1024,
@@ -60,10 +71,8 @@ enum chhayublo_refusal {
     CHHAYUBLO_TOO_MANY_ROWS = 1,          /* rows over 512 */
     CHHAYUBLO_BAD_COLUMNS = 2,            /* columns 0 or over 1024 */
     CHHAYUBLO_BAD_K = 3,                  /* k 0 or over 8 */
-    CHHAYUBLO_WRONG_MATRIX_LENGTH = 4,    /* other than rows * W words, more or fewer; likewise the words lent for an entry,
-                                             and the writer's words together */
-    CHHAYUBLO_PADDING_NOT_ZERO = 5,       /* a padding bit is 1: of the matrix or the packets, of a body in a bundle, of the
-                                             writer's words */
+    CHHAYUBLO_WRONG_MATRIX_LENGTH = 4,    /* other than rows * W words, more or fewer: matrix, entry, writer's words together */
+    CHHAYUBLO_PADDING_NOT_ZERO = 5,       /* a padding bit is 1: in the matrix or packets, a bundle's body, the writer's words */
     CHHAYUBLO_ROOM_TOO_SHORT = 6,         /* the room has fewer words than needed; more are fine */
     CHHAYUBLO_BAD_BLOCK_COUNT = 7,        /* n, the number of blocks, is 0 or not below columns */
     CHHAYUBLO_NOT_SQUARE = 8,             /* rows differ from columns */
@@ -71,7 +80,7 @@ enum chhayublo_refusal {
     CHHAYUBLO_CONTRADICTORY = 10,         /* no image meets all packets */
     CHHAYUBLO_TOO_WIDE = 11,              /* columns + rows over 1024 where an identity goes beside the packets */
     CHHAYUBLO_NOT_BELOW_COUNT = 12,       /* a row or entry number that is not below the number of rows or entries */
-    CHHAYUBLO_WRONG_BUFFER_LENGTH = 13,   /* result, image, marks or names of a wrong length; the writer's lists differ in length */
+    CHHAYUBLO_WRONG_BUFFER_LENGTH = 13,   /* result, image, marks or names of wrong length; the writer's lists differ in length */
     CHHAYUBLO_BAD_BUNDLE_LENGTH = 20,     /* a bundle of under 2 or over 65535 bytes */
     CHHAYUBLO_BAD_ENTRY_COUNT = 21,       /* no entry, or over 64 */
     CHHAYUBLO_CONTENTS_CUT = 22,          /* the bundle ends inside its contents */
@@ -83,6 +92,38 @@ enum chhayublo_refusal {
     CHHAYUBLO_OUTPUT_TOO_SHORT = 28,      /* the writer's output has fewer bytes than the bundle */
     CHHAYUBLO_BUNDLE_TOO_LONG = 29        /* the writer's bundle would have over 65535 bytes */
 };
+
+/* a refusal's text, in the words of the list above; "" for 0, and "unknown refusal" for a number that the list does not have */
+static inline const char *chhayublo_refusal_text(uint64_t number)
+{
+    switch (number) {
+    case CHHAYUBLO_DONE: return "";
+    case CHHAYUBLO_TOO_MANY_ROWS: return "rows over 512";
+    case CHHAYUBLO_BAD_COLUMNS: return "columns 0 or over 1024";
+    case CHHAYUBLO_BAD_K: return "k 0 or over 8";
+    case CHHAYUBLO_WRONG_MATRIX_LENGTH: return "other than rows * W words, more or fewer: matrix, entry, writer's words together";
+    case CHHAYUBLO_PADDING_NOT_ZERO: return "a padding bit is 1: in the matrix or packets, a bundle's body, the writer's words";
+    case CHHAYUBLO_ROOM_TOO_SHORT: return "the room has fewer words than needed; more are fine";
+    case CHHAYUBLO_BAD_BLOCK_COUNT: return "n, the number of blocks, is 0 or not below columns";
+    case CHHAYUBLO_NOT_SQUARE: return "rows differ from columns";
+    case CHHAYUBLO_NO_INVERSE: return "the matrix has no inverse";
+    case CHHAYUBLO_CONTRADICTORY: return "no image meets all packets";
+    case CHHAYUBLO_TOO_WIDE: return "columns + rows over 1024 where an identity goes beside the packets";
+    case CHHAYUBLO_NOT_BELOW_COUNT: return "a row or entry number that is not below the number of rows or entries";
+    case CHHAYUBLO_WRONG_BUFFER_LENGTH: return "result, image, marks or names of wrong length; the writer's lists differ in length";
+    case CHHAYUBLO_BAD_BUNDLE_LENGTH: return "a bundle of under 2 or over 65535 bytes";
+    case CHHAYUBLO_BAD_ENTRY_COUNT: return "no entry, or over 64";
+    case CHHAYUBLO_CONTENTS_CUT: return "the bundle ends inside its contents";
+    case CHHAYUBLO_UNKNOWN_KIND: return "an entry's kind is not 1 or 2";
+    case CHHAYUBLO_BAD_ENTRY_SHAPE: return "an entry's rows over 512, or its columns 0 or over 1024";
+    case CHHAYUBLO_WRONG_OFFSET: return "an entry's offset is not where the contents, or the body before it, ended";
+    case CHHAYUBLO_BODY_PAST_END: return "an entry's body runs past the bundle's end";
+    case CHHAYUBLO_BYTES_LEFT_OVER: return "bytes after the last body";
+    case CHHAYUBLO_OUTPUT_TOO_SHORT: return "the writer's output has fewer bytes than the bundle";
+    case CHHAYUBLO_BUNDLE_TOO_LONG: return "the writer's bundle would have over 65535 bytes";
+    default: return "unknown refusal";
+    }
+}
 
 /* where a row stands in the caller's matrix: `words` words from word `start` on; 0 and 0 where the view is refused */
 typedef struct chhayublo_row {
@@ -175,6 +216,9 @@ static inline size_t chhayublo_bundle_bytes(size_t entries, size_t words)
 {
     return 2 + 10 * entries + 8 * words;
 }
+
+/* VERSION of the archive's structs and calls; see the top */
+uint64_t chhayublo_version(void);
 
 /*
  * ROW VIEW: where row i stands in the matrix, namely at word i * W, W words long. Nothing is written.

@@ -1,5 +1,6 @@
-/* The header as a stranger includes it, in C11 and in C++17: it compiles without a warning, its structs have the layout of the
-   calls, its sizes are those that the calls ask for, and what it declares links. Ends with status 0 if all of that holds. */
+/* The header as a stranger includes it, in C11 and in C++17: it compiles without a warning, its version is the archive's, its
+   structs have the layout of the calls, its sizes are those that the calls ask for, its texts are those of the numbers, and what
+   it declares links. Ends with status 0 if all of that holds. */
 #include <assert.h>
 #include <chhayublo.h>
 #include <chhayublo.h>
@@ -43,10 +44,30 @@ static int bundles_link(void)
         && told.kind == 2 && told.rows == 1 && told.columns == 65 && memcmp(back, words + 2, sizeof back) == 0;
 }
 
+static int text_is(uint64_t number, const char *text)
+{
+    return strcmp(chhayublo_refusal_text(number), text) == 0;
+}
+
+/* each refusal has a text, the numbers between and beyond have none */
+static int texts_are_right(void)
+{
+    int right = text_is(0, "") && text_is(1, "rows over 512") && text_is(10, "no image meets all packets")
+        && text_is(20, "a bundle of under 2 or over 65535 bytes") && text_is(29, "the writer's bundle would have over 65535 bytes")
+        && text_is(UINT64_MAX, "unknown refusal") && text_is(((uint64_t)1 << 32) + 1, "unknown refusal");
+    for (uint64_t number = 1; number < 40; number++) {
+        int listed = number <= CHHAYUBLO_WRONG_BUFFER_LENGTH
+            || (number >= CHHAYUBLO_BAD_BUNDLE_LENGTH && number <= CHHAYUBLO_BUNDLE_TOO_LONG);
+        right = right && !text_is(number, "") && text_is(number, "unknown refusal") == !listed;
+    }
+    return right;
+}
+
 int main(void)
 {
     chhayublo_row row = chhayublo_row_view(matrix, 40, 10, 200, 3);
-    int right = row.start == 12 && row.words == chhayublo_words(200) && bundles_link();
+    int right = chhayublo_version() == CHHAYUBLO_VERSION && row.start == 12 && row.words == chhayublo_words(200) && bundles_link()
+        && texts_are_right();
     for (size_t k = 1; k <= CHHAYUBLO_MAX_K; k++)
         right = right && sizes_are_exact(k);
     return right ? 0 : 1;

@@ -1,4 +1,4 @@
--- How an answer of a call is seen from C: a refusal as its number, 0 where nothing is refused.
+-- How an answer of a call is seen from C: a refusal as its number, 0 where nothing is refused; and the version of the calls.
 use mathlib.Core.List.{List}
 use Prim.Native.Nat.{ℕ}
 use lib.ListN.{length}
@@ -49,3 +49,8 @@ seenEntry (told.Refused r) = record { refusal = toldNumber (told.Refused r); kin
 abbrev pub seenLength : Written → Length
 seenLength (written.Bytes n) = record { refusal = writtenNumber (written.Bytes n); bytes = n }
 seenLength (written.Refused r) = record { refusal = writtenNumber (written.Refused r); bytes = 0 }
+
+-- ---- the version: it grows with each change of a struct or a call
+
+abbrev pub version : ℕ
+version = 1

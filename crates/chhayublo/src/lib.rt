@@ -13,7 +13,7 @@ ghost use Rattle.packets.specs.Contradiction.{naming};
 ghost use Rattle.bundle.specs.Bundle.{bothKinds, meaning};
 ghost use Rattle.bundle.specs.Answers.{countedIn, find, toldOf, lentEntry, unpackedOf};
 ghost use Rattle.pack.specs.Writing.{written, output};
-ghost use Rattle.chhayublo.specs.Calls.{seenRow, seenAnswer, seenVerdict, seenCount, seenEntry, seenLength};
+ghost use Rattle.chhayublo.specs.Calls.{seenRow, seenAnswer, seenVerdict, seenCount, seenEntry, seenLength, version};
 use bundle::Counted;
 use bundle::Told;
 use pack::Written;
@@ -64,6 +64,14 @@ pub struct Entry {
 pub struct Length {
     pub refusal: u64,
     pub bytes: usize,
+}
+
+// the version of these structs and calls: grows with each change of them, together with the header's and the bindings' number
+#[no_mangle]
+pub extern "C" fn chhayublo_version() -> u64
+    ensures { λ r. ⌜ r ≡ version ⌝ }
+{
+    1
 }
 
 #[no_mangle]
