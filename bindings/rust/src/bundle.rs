@@ -13,7 +13,7 @@
 //! ```
 
 use crate::refusal::check;
-use crate::{sys, words, Refusal};
+use crate::{sys, words, Refusal, MAX_BUNDLE};
 
 /// The numbers of an entry; kind is 1 or 2, the order in which its bits are stored.
 #[derive(Clone, Copy, Debug, PartialEq, Eq)]
@@ -54,7 +54,7 @@ pub fn write(entries: &[Entry], words: &[u64]) -> Result<Vec<u8>, Refusal> {
     let kinds: Vec<u16> = entries.iter().map(|entry| entry.kind).collect();
     let rows: Vec<u16> = entries.iter().map(|entry| entry.rows).collect();
     let columns: Vec<u16> = entries.iter().map(|entry| entry.columns).collect();
-    let mut out = vec![0; 65_535];
+    let mut out = vec![0; MAX_BUNDLE];
     let length = sys::bundle_write(&kinds, &rows, &columns, words, &mut out);
     check(length.refusal)?;
     out.truncate(length.bytes);

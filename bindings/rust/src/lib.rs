@@ -7,8 +7,9 @@
 //! has left over must be 0. k, from 1 to 8, is the width of the windows in which columns are worked off: it changes the time and
 //! the number of additions told, and nothing else; 7 or 8 is fastest for large matrices.
 //!
-//! No function panics or asks anything of its arguments: what does not fit is refused, and unless said otherwise a refused call
-//! changes nothing. Working room is kept in a [`Room`] that can be used for any number of calls.
+//! No function asks anything of its arguments: what does not fit is refused, and unless said otherwise a refused call changes
+//! nothing. Working room is kept in a [`Room`] that can be used for any number of calls. A function panics only where the archive
+//! that was linked has another version than [`VERSION`]: its calls are then not those that this crate knows.
 //!
 //! ```
 //! use chhayublo::{reduce, Room};
@@ -31,6 +32,20 @@ pub use matrix::{invert, reduce, row_view, Reduced};
 pub use packets::{contradiction, solve, Solution};
 pub use refusal::Refusal;
 pub use room::Room;
+
+/// Version of the archive's structs and calls that this crate is written for.
+pub const VERSION: u64 = 1;
+
+/// Most rows of a matrix, and most packets.
+pub const MAX_ROWS: usize = 512;
+/// Most columns of a matrix; at least one is needed.
+pub const MAX_COLUMNS: usize = 1024;
+/// Widest window; the narrowest is 1.
+pub const MAX_K: usize = 8;
+/// Most entries of a bundle; at least one is needed.
+pub const MAX_ENTRIES: usize = 64;
+/// Most bytes of a bundle.
+pub const MAX_BUNDLE: usize = 65_535;
 
 /// Words of a row of that many columns.
 pub fn words(columns: usize) -> usize {

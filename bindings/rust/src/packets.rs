@@ -1,5 +1,5 @@
 use crate::refusal::check;
-use crate::{sys, words, Refusal, Room};
+use crate::{sys, words, Refusal, Room, MAX_COLUMNS, MAX_ROWS};
 
 /// What solving tells of the blocks.
 #[derive(Clone, Debug, PartialEq, Eq)]
@@ -44,7 +44,7 @@ impl Solution {
 /// ```
 pub fn solve(packets: &mut [u64], rows: usize, columns: usize, n: usize, k: usize, room: &mut Room) -> Result<Solution, Refusal> {
     // numbers out of range are refused before image and marks are looked at
-    let blocks = if n < columns && columns <= 1024 { n } else { 0 };
+    let blocks = if n < columns && columns <= MAX_COLUMNS { n } else { 0 };
     let mut image = vec![0; blocks * words(columns.saturating_sub(n))];
     let mut marks = vec![0; blocks];
     let answer = sys::solve(packets, rows, columns, n, k, &mut image, &mut marks, room.table(0, columns, k));
@@ -79,7 +79,7 @@ pub fn contradiction(
     k: usize,
     room: &mut Room,
 ) -> Result<Option<Vec<usize>>, Refusal> {
-    let mut names = vec![0; words(rows.min(512))];
+    let mut names = vec![0; words(rows.min(MAX_ROWS))];
     let answer = sys::contradiction(packets, rows, columns, n, k, &mut names, room.table(rows, columns.saturating_add(rows), k));
     check(answer.refusal)?;
     let named = |i: &usize| names[i / 64] >> (i % 64) & 1 == 1;

@@ -68,3 +68,11 @@ fn refusals_have_their_numbers() {
     assert_eq!(numbers.map(Refusal::number), [12, 20, 21, 22, 23, 24, 26, 29]);
     assert_eq!(Refusal::Contradictory.to_string(), "refused 10: no image meets all packets");
 }
+
+#[test]
+fn a_room_tells_its_words() {
+    let mut room = Room::new();
+    assert_eq!(format!("{room:?}"), "Room { words: 0 }");
+    reduce(&mut [1], 1, 1, 3, &mut room).unwrap();
+    assert_eq!(format!("{room:?}"), "Room { words: 8 }");
+}
