@@ -18,7 +18,8 @@ mod raw;
 mod share;
 
 use groups::{
-    bundles, enumerated, grids, inverse, lists, orders, packets, program, reduction, refusals, sheet, unread, views, writer, Tried,
+    bundles, enumerated, grids, inverse, lists, orders, packets, program, reduction, refusals, sheet, streams, unread, views,
+    writer, Tried,
 };
 use random::Random;
 use std::panic::catch_unwind;
@@ -71,6 +72,7 @@ const GROUPS: &[(&str, &[Part])] = &[
     ("bundles: round trips", &[writer::round_trips]),
     ("program: from files", &[program::files]),
     ("program: from pipes, in pieces, and too long", &[program::pieces, program::too_long]),
+    ("program: streams that fail, and input that pauses", &[streams::failing, streams::pausing]),
 ];
 
 /// all parts of a group, each with numbers of its own

@@ -11,6 +11,7 @@ pub mod program;
 pub mod reduction;
 pub mod refusals;
 pub mod sheet;
+pub mod streams;
 pub mod unread;
 pub mod views;
 pub mod writer;

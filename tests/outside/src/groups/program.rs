@@ -13,14 +13,14 @@ use std::process::{Command, Output, Stdio};
 use std::thread;
 use std::time::Duration;
 
-fn program() -> Command {
+pub fn program() -> Command {
     let path = std::env::args().nth(1).expect("the program's path");
     let mut command = Command::new(path);
     command.stdout(Stdio::piped()).stderr(Stdio::piped());
     command
 }
 
-fn right(bytes: &[u8], output: Output) -> Tried {
+pub fn right(bytes: &[u8], output: Output) -> Tried {
     ensure(output.status.code().is_some(), || format!("{} bytes: ended by a signal", bytes.len()))?;
     ensure(output.stderr.is_empty(), || format!("{} bytes: standard error is not empty", bytes.len()))?;
     let expected = plain_bundle::report(bytes);
@@ -61,7 +61,7 @@ fn by_pipe(bytes: &[u8], piece: usize, pause: Duration) -> Tried {
     right(bytes, output)
 }
 
-fn some_bundle(random: &mut Random, round: usize) -> Vec<u8> {
+pub fn some_bundle(random: &mut Random, round: usize) -> Vec<u8> {
     let list: Vec<Entry> = match round % 8 {
         0 => vec![entry(random, 60, 300)],
         1 => entries(random, 64),
