@@ -3,7 +3,7 @@ use mathlib.Core.Path.{_≡_, refl, sym, ap, ap₂, _∙_, subst}
 use mathlib.Core.List.{List, _∷_, _++_}
 use Prim.Native.Nat.{ℕ, zero, suc, _+_, _<_, _≤_}
 use native.Mathlib.Omega.{arith}
-use lib.ListN.{length, getD, take, drop, replicate, length-replicate}
+use lib.ListN.{length, getD, take, drop}
 use lib.Seq.{take-at}
 use Rattle.words.specs.Words.{Fit}
 use Rattle.wire.specs.Bytes.{Bytes}
@@ -135,18 +135,6 @@ module _ (ks rs cs ws out : List ℕ) (small : (i : ℕ) → getD ks i 0 < 65536
   )
 
 -- ---- such calls there are
-
--- For any bytes and any n there are n such calls; that none is refused where `read` accepts the bytes says `written-by-calls`. The sample is accepted
--- (bundle/proofs/Holds: `sample-means`), and so is all that passes (bundle/proofs/Passing: `bundle-passes`).
-pub unpacking : (b : List ℕ) (i n : ℕ) → Unpacking b i n
-unpacking b i zero = none
-unpacking b i (suc n) =
-    let t : Told = toldOf (find i (meaning bothKinds b)) in
-    let size : ℕ = bodyWords (rowsIn t) (columnsIn t) in
-    let ws : List ℕ = replicate size 0 in
-    next (record { answer = t; promise = refl })
-    (record { words = ws; answer = toldOf (lentEntry bothKinds i b ws); words′ = unpackedOf (lentEntry bothKinds i b ws) ws; promise = (refl, refl) })
-    (length-replicate size 0) (unpacking b (i + 1) n)
 
 -- Whatever can be written (pack/specs/Writing: `Writable`) is answered with a number of bytes; so is the sample (Written: `sample-answered`).
 pub passes-written : (ks rs cs ws out : List ℕ) → Writable bothKinds ks rs cs ws (length out) → (w : WriteCall ks rs cs ws out)

@@ -1,10 +1,15 @@
 -- Calls on bundles: what each was given, what it answered and what it left. Its promise, word for word, says how these belong together.
-use mathlib.Core.Path.{_≡_}
+use mathlib.Core.Path.{_≡_, refl}
 use mathlib.Core.List.{List, [], _∷_, _++_}
-use Prim.Native.Nat.{ℕ, suc, _+_}
-use lib.ListN.{length}
-use Rattle.bundle.specs.Bundle.{bodyWords, bothKinds, meaning}
-use Rattle.bundle.specs.Answers.{countedIn, find, toldOf, lentEntry, unpackedOf}
+use Prim.Native.Nat.{ℕ, zero, suc, _+_}
+use lib.ListN.{length, replicate, length-replicate}
+use Rattle.words.specs.Words.{rowsOf, flat}
+use Rattle.wire.specs.Bytes.{num}
+use Rattle.wire.specs.Kinds.{order, wordsAt}
+use Rattle.refusals.specs.Checks.{narrow}
+use Rattle.bundle.specs.Bundle.{bodyWords, kindRule, bothKinds, badShape, matrixAt, bodyChecks, entryChecks, entriesChecks, bundleChecks, entryAt, entriesFrom, entriesOf, meaning}
+use Rattle.bundle.specs.Answers.{countedIn, entryIn, find, toldOf, lentFor, lentEntry, unpackedOf}
+use Rattle.bundle.specs.Sample.{sample}
 use Rattle.bundle.specs.declared.Counted.{Counted}
 use Rattle.bundle.specs.declared.Told.{Told}
 use Rattle.bundle.specs.declared.Told.the-variants as told
@@ -83,3 +88,21 @@ module _ {b : List ℕ} where
   unfoldable pub wordsLeft : {i n : ℕ} → Unpacking b i n → List ℕ
   wordsLeft none = []
   wordsLeft (next a c l cs) = c .words′ ++ wordsLeft cs
+
+-- ---- such calls there are
+
+-- For any bytes and any n, n of them; that none is refused where `read` accepts the bytes says `written-by-calls` (proofs/Calls).
+unfoldable pub unpacking : (b : List ℕ) (i n : ℕ) → Unpacking b i n
+unpacking b i zero = none
+unpacking b i (suc n) =
+    let t : Told = toldOf (find i (meaning bothKinds b)) in
+    let size : ℕ = bodyWords (rowsIn t) (columnsIn t) in
+    let ws : List ℕ = replicate size 0 in
+    next (record { answer = t; promise = refl })
+    (record { words = ws; answer = toldOf (lentEntry bothKinds i b ws); words′ = unpackedOf (lentEntry bothKinds i b ws) ws; promise = (refl, refl) })
+    (length-replicate size 0) (unpacking b (i + 1) n)
+
+-- of the sample they leave the words of its first entry, then those of its second
+pub sample-left : wordsLeft (unpacking sample 0 2) ≡ 3 ∷ 1 ∷ 6 ∷ 6 ∷ 0 ∷ []
+unfolding wordsLeft unpacking sample meaning bundleChecks entriesChecks entryChecks bodyChecks badShape kindRule matrixAt bodyWords narrow rowsOf wordsAt order num entriesOf entriesFrom entryAt find entryIn toldOf lentFor unpackedOf flat
+sample-left = refl

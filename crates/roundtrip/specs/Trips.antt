@@ -1,4 +1,5 @@
 -- What unpacking a bundle entry by entry gives: the lists that the writer takes.
+use mathlib.Core.Path.{_≡_, refl}
 use mathlib.Core.List.{List, [], _∷_, _++_, map}
 use Prim.Native.Nat.{ℕ}
 use lib.ListN.{take, drop, getD}
@@ -24,6 +25,11 @@ wordsOfAll (e ∷ es) = flat (wordsOf (e .columns)) (e .matrix) ++ wordsOfAll es
 -- where the words of entry i begin, among those given for all entries
 abbrev pub startOf : ℕ → List ℕ → List ℕ → ℕ
 startOf i rs cs = allWords (take i rs) (take i cs)
+
+-- behind an entry of 2 rows of 65 columns the next one begins at word 4
+pub second-start : startOf 1 (2 ∷ 3 ∷ []) (65 ∷ 1 ∷ []) ≡ 4
+unfolding allWords bodyWords
+second-start = refl
 
 -- the words given for entry i
 abbrev pub wordsGiven : ℕ → List ℕ → List ℕ → List ℕ → List ℕ
