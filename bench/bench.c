@@ -1,463 +1,26 @@
-// Reduction, inverse and solving over GF(2), timed against libm4ri: bench [SECONDS [PART]], see `run`.
+// Reduction, inverse and solving over GF(2), timed against libm4ri and against another build: see `run`.
 //
-// For each problem every method's answer is first checked by arithmetic bit by bit. Then all methods run in turn, in another
-// order each round, each on a fresh copy of the same input (the copying is not timed). A method's time is the least of all
-// rounds, and what is printed is the ratio of our time to that of libm4ri's best method: below 1 we are faster. Ratios only:
-// the times themselves depend on the machine and on what else it does. Of a small matrix the processor learns the branches
-// from round to round, which helps libm4ri more than us.
+//   bench SECONDS PART            prints the table
+//   bench SECONDS PART PIPES..    for two builds: pipes to and from this build's process, to and from the other's
+//   bench answer all|ours         such a process, for all methods or for ours
+//
+// Each problem has a dozen inputs, and on each of them every method's answer is first checked by arithmetic bit by bit. Then
+// all methods run in turn, in another order each round, each on the dozen inputs one after the other (one input again and
+// again would let the processor learn its branches), and each time on a fresh copy (the copying is not timed). A method's
+// time is the mean over the inputs of the least time of all rounds. What is printed is the ratio of our time to that of
+// libm4ri's best method: below 1 we are faster. Ratios only: the times themselves depend on the machine and on what else it
+// does.
+//
+// `run` looks for the next line in both checkouts. Its number grows with every change of the lines asked and answered, of
+// the problems and of their inputs.
+// Protocol of compared builds: 1
 #define _POSIX_C_SOURCE 200809L
-#include <m4ri/m4ri.h>
-#include <stdint.h>
 #include <stdio.h>
 #include <stdlib.h>
 #include <string.h>
 #include <time.h>
 
-#include "chhayublo.h"
-#include "random.h"
-
-enum { ROWS = CHHAYUBLO_MAX_ROWS, COLUMNS = CHHAYUBLO_MAX_COLUMNS, WORDS = COLUMNS / 64, JUNK = 0xa5 };
-
-// ---- matrices of bytes, one for each bit: inputs and expected answers
-
-typedef struct {
-    int rows, columns;
-    unsigned char at[ROWS][COLUMNS];
-} bits;
-
-static int below(int n) { return (int)((next_number() >> 33) % (uint64_t)n); }
-static int coin(void) { return (int)(next_number() >> 63); }
-
-static void clear(bits *b, int rows, int columns)
-{
-    memset(b, 0, sizeof *b);
-    b->rows = rows;
-    b->columns = columns;
-}
-
-static void add(unsigned char *to, const unsigned char *from, int count)
-{
-    for (int c = 0; c < count; c++)
-        to[c] ^= from[c];
-}
-
-static void swap_rows(bits *b, int i, int l)
-{
-    unsigned char row[COLUMNS];
-    memcpy(row, b->at[i], sizeof row);
-    memmove(b->at[i], b->at[l], sizeof row);
-    memcpy(b->at[l], row, sizeof row);
-}
-
-// one column after the other: the rank, and the pivot columns
-static int reduce_bits(bits *b, int *pivots)
-{
-    int rank = 0;
-    for (int c = 0; c < b->columns && rank < b->rows; c++) {
-        int i = rank;
-        while (i < b->rows && !b->at[i][c])
-            i++;
-        if (i == b->rows)
-            continue;
-        swap_rows(b, i, rank);
-        for (int l = 0; l < b->rows; l++)
-            if (l != rank && b->at[l][c])
-                add(b->at[l], b->at[rank], b->columns);
-        pivots[rank++] = c;
-    }
-    return rank;
-}
-
-// the sum over the windows of k columns of 2^r - 1, r the window's pivots
-static uint64_t additions_of(const int *pivots, int rank, int k)
-{
-    uint64_t total = 0;
-    for (int i = 0; i < rank;) {
-        int r = 0;
-        for (int window = pivots[i] / k; i < rank && pivots[i] / k == window; i++)
-            r++;
-        total += (1u << r) - 1;
-    }
-    return total;
-}
-
-static int same(const bits *a, const bits *b)
-{
-    for (int i = 0; i < b->rows; i++)
-        if (memcmp(a->at[i], b->at[i], (size_t)b->columns))
-            return 0;
-    return 1;
-}
-
-// ---- the problem at hand
-
-static bits input, reduced; // reduced bit by bit
-static int rank, pivots[ROWS];
-static int blocks;          // in solving: the packets' coefficients,
-static bits image, shown;   // the image that they are made of, what of it they make known,
-static uint8_t known[ROWS]; // and which blocks these are
-
-static void uniform(bits *b)
-{
-    for (int i = 0; i < b->rows; i++)
-        for (int c = 0; c < b->columns; c++)
-            b->at[i][c] = (unsigned char)coin();
-}
-
-// random sums of r random rows
-static void low_rank(bits *b, int r)
-{
-    static bits few;
-    clear(&few, r, b->columns);
-    uniform(&few);
-    for (int i = 0; i < b->rows; i++)
-        for (int l = 0; l < r; l++)
-            if (coin())
-                add(b->at[i], few.at[l], b->columns);
-}
-
-static void half_rank(bits *b) { low_rank(b, b->rows / 2); }
-static void rank_16(bits *b) { low_rank(b, 16); }
-static void zero(bits *b) { (void)b; }
-
-// every other row is one of the random rows before it
-static void repeats(bits *b)
-{
-    uniform(b);
-    for (int i = 1; i < b->rows; i += 2)
-        memcpy(b->at[i], b->at[2 * below((i + 1) / 2)], sizeof b->at[i]);
-}
-
-static void identity(bits *b)
-{
-    for (int i = 0; i < b->rows; i++)
-        b->at[i][i] = 1;
-}
-
-// a permutation, and two more ones in each row
-static void sparse(bits *b)
-{
-    identity(b);
-    for (int i = b->rows - 1; i > 0; i--)
-        swap_rows(b, i, below(i + 1));
-    for (int i = 0; i < 2 * b->rows; i++)
-        b->at[i / 2][below(b->columns)] ^= 1;
-}
-
-static void invertible(bits *b)
-{
-    static bits copy;
-    do {
-        uniform(b);
-        copy = *b;
-    } while (reduce_bits(&copy, pivots) < b->rows);
-}
-
-// packets of a random image, with random coefficients
-static void packets(bits *b)
-{
-    clear(&image, blocks, b->columns - blocks);
-    uniform(&image);
-    for (int i = 0; i < b->rows; i++)
-        for (int j = 0; j < blocks; j++)
-            if (coin()) {
-                b->at[i][j] = 1;
-                add(b->at[i] + blocks, image.at[j], image.columns);
-            }
-}
-
-// no inverse, and no image that meets the packets: a row is there twice, as a packet with another payload
-static void spoil(bits *b)
-{
-    memcpy(b->at[0], b->at[b->rows - 1], sizeof b->at[0]);
-    b->at[0][blocks] ^= blocks > 0;
-}
-
-// a block is known where a row has its coefficient alone
-static void expect(void)
-{
-    reduced = input;
-    rank = reduce_bits(&reduced, pivots);
-    clear(&shown, blocks, input.columns - blocks);
-    memset(known, 0, sizeof known);
-    for (int i = 0; i < rank; i++) {
-        int ones = 0, block = 0;
-        for (int j = 0; j < blocks; j++)
-            if (reduced.at[i][j]) {
-                ones++;
-                block = j;
-            }
-        if (ones == 1) {
-            known[block] = 1;
-            memcpy(shown.at[block], image.at[block], (size_t)shown.columns);
-        }
-    }
-}
-
-// ---- the buffers
-
-static _Alignas(64) uint64_t fresh[ROWS * WORDS], beside[ROWS * WORDS]; // the input, and with an identity on its right
-static _Alignas(64) uint64_t words[ROWS * WORDS], result[ROWS * WORDS], room[(ROWS + 256) * WORDS];
-static uint8_t marks[ROWS];
-static chhayublo_answer said;
-static mzd_t *their_fresh, *theirs, *their_result;
-static int their_rank, their_known;
-
-static size_t width(int columns) { return ((size_t)columns + 63) / 64; }
-
-static void put(uint64_t *m, size_t w, int i, int c) { m[(size_t)i * w + (size_t)c / 64] |= (uint64_t)1 << c % 64; }
-
-// the input as words, w a row
-static void pack(uint64_t *m, size_t w)
-{
-    memset(m, 0, (size_t)input.rows * w * 8);
-    for (int i = 0; i < input.rows; i++)
-        for (int c = 0; c < input.columns; c++)
-            if (input.at[i][c])
-                put(m, w, i, c);
-}
-
-static void load(int with_identity)
-{
-    pack(fresh, width(input.columns));
-    if (with_identity) {
-        pack(beside, width(input.columns + input.rows));
-        for (int i = 0; i < input.rows; i++)
-            put(beside, width(input.columns + input.rows), i, input.columns + i);
-    }
-    their_fresh = mzd_init(input.rows, input.columns);
-    theirs = mzd_init(input.rows, input.columns);
-    their_result = mzd_init(input.rows, input.columns);
-    for (int i = 0; i < input.rows; i++)
-        for (int c = 0; c < input.columns; c++)
-            mzd_write_bit(their_fresh, i, c, input.at[i][c]);
-}
-
-static void unload(void)
-{
-    mzd_free(their_fresh);
-    mzd_free(theirs);
-    mzd_free(their_result);
-}
-
-// so that no answer of an earlier run is taken for a new one
-static void litter(void)
-{
-    memset(result, JUNK, sizeof result);
-    memset(room, JUNK, sizeof room);
-    memset(marks, JUNK, sizeof marks);
-    memset(&said, JUNK, sizeof said);
-    mzd_set_ui(their_result, 0);
-    their_rank = their_known = -2;
-}
-
-static int is_junk(const void *p, size_t size)
-{
-    for (size_t l = 0; l < size; l++)
-        if (((const uint8_t *)p)[l] != JUNK)
-            return 0;
-    return 1;
-}
-
-// the first words of the room end zero, the others as they were
-static int room_clean(size_t needed)
-{
-    for (size_t l = 0; l < needed; l++)
-        if (room[l])
-            return 0;
-    return is_junk(room + needed, sizeof room - 8 * needed);
-}
-
-// rows of words as bits, from column c on
-static const bits *bits_of(const uint64_t *m, int rows, int c, int columns)
-{
-    static bits b;
-    clear(&b, rows, columns);
-    for (int i = 0; i < rows; i++)
-        for (int l = 0; l < columns; l++)
-            b.at[i][l] = m[(size_t)i * width(c + columns) + (size_t)(c + l) / 64] >> (c + l) % 64 & 1;
-    return &b;
-}
-
-static const bits *bits_of_theirs(mzd_t *m)
-{
-    static bits b;
-    clear(&b, m->nrows, m->ncols);
-    for (int i = 0; i < m->nrows; i++)
-        for (int c = 0; c < m->ncols; c++)
-            b.at[i][c] = (unsigned char)mzd_read_bit(m, i, c);
-    return &b;
-}
-
-// ---- reduction
-
-enum { TWO_SLICES, OURS, BY_TABLES, BY_PLUQ, BY_CHOICE };
-
-static size_t table_room(int k) { return width(input.columns) << k; }
-
-static void reduce_words(int columns, int k)
-{
-    size_t rows = (size_t)input.rows, w = width(columns);
-    said = chhayublo_reduce(words, rows * w, rows, (size_t)columns, (size_t)k, room, w << k);
-}
-
-static void echelonize(int how, int k)
-{
-    if (how == BY_TABLES)
-        their_rank = mzd_echelonize_m4ri(theirs, 1, k);
-    else if (how == BY_PLUQ)
-        their_rank = mzd_echelonize_pluq(theirs, 1);
-    else
-        their_rank = mzd_echelonize(theirs, 1);
-}
-
-static void reduction(int how, int k)
-{
-    if (how == OURS)
-        reduce_words(input.columns, k);
-    else
-        echelonize(how, k);
-}
-
-static const char *wrong_reduction(int how, int k)
-{
-    if ((how == OURS ? (int)said.rank : their_rank) != rank)
-        return "rank";
-    if (!same(how == OURS ? bits_of(words, input.rows, 0, input.columns) : bits_of_theirs(theirs), &reduced))
-        return "matrix";
-    if (how != OURS)
-        return 0;
-    if (said.additions != additions_of(pivots, rank, k))
-        return "table additions";
-    for (int i = 0; i < ROWS; i++)
-        if (said.pivots[i] != (i < rank ? pivots[i] : CHHAYUBLO_NO_PIVOT))
-            return "pivots";
-    return 0;
-}
-
-// ---- inverse
-
-// the steps of mzd_inv_m4ri, which (as of 20200125) takes a k but does not hand it on
-static void their_inverse(int k)
-{
-    int n = input.rows, middle = 64 * theirs->width;
-    mzd_t *both = mzd_init(n, 2 * middle);
-    mzd_t *left = mzd_init_window(both, 0, 0, n, n), *right = mzd_init_window(both, 0, middle, n, middle + n);
-    mzd_copy(left, theirs);
-    mzd_set_ui(right, 1);
-    mzd_echelonize_m4ri(both, 1, k);
-    mzd_copy(their_result, right);
-    mzd_free(left);
-    mzd_free(right);
-    mzd_free(both);
-}
-
-static size_t inverse_room(int k) { return ((size_t)input.rows + (1u << k)) * width(2 * input.columns); }
-
-static void inverse(int how, int k)
-{
-    size_t n = (size_t)input.rows, len = n * width(input.columns);
-    if (how == OURS)
-        said.refusal = chhayublo_invert(words, len, n, n, (size_t)k, result, len, room, inverse_room(k));
-    else if (how == TWO_SLICES)
-        reduce_words(2 * input.columns, k);
-    else if (k == 0)
-        mzd_inv_m4ri(their_result, theirs, 0);
-    else
-        their_inverse(k);
-}
-
-static int product_is_identity(const bits *a, const bits *b)
-{
-    static bits unit;
-    unsigned char row[COLUMNS];
-    clear(&unit, a->rows, b->columns);
-    identity(&unit);
-    for (int i = 0; i < a->rows; i++) {
-        memset(row, 0, sizeof row);
-        for (int l = 0; l < b->rows; l++)
-            if (a->at[i][l])
-                add(row, b->at[l], b->columns);
-        if (memcmp(row, unit.at[i], (size_t)b->columns))
-            return 0;
-    }
-    return 1;
-}
-
-static const char *wrong_inverse(int how, int k)
-{
-    (void)k;
-    int n = input.rows;
-    const bits *b = how == OURS         ? bits_of(result, n, 0, n)
-                    : how == TWO_SLICES ? bits_of(words, n, n, n)
-                                        : bits_of_theirs(their_result);
-    if (!product_is_identity(b, &input))
-        return "product with the matrix";
-    if (!product_is_identity(&input, b))
-        return "product of the matrix with it";
-    return how != OURS || same(bits_of(words, n, 0, n), &input) ? 0 : "matrix, which is only read";
-}
-
-// ---- solving
-
-// What libm4ri leaves to its user, for reduced packets whose first `count` rows are not zero: the number of known blocks, -1
-// if the packets contradict each other. Coefficients and blocks are whole words here. Pivots rise, so rows without
-// coefficients come last, and no row begins left of the one above it.
-static int read_off(mzd_t *m, int count, uint64_t *to, uint8_t *marked)
-{
-    int w = blocks / 64, v = m->width - w, l = 0, found = 0;
-    if (count > 0) {
-        const word *last = mzd_row(m, count - 1);
-        while (l < w && !last[l])
-            l++;
-        if (l == w)
-            return -1;
-    }
-    memset(to, 0, (size_t)blocks * (size_t)v * 8);
-    memset(marked, 0, (size_t)blocks);
-    l = 0;
-    for (int i = 0; i < count; i++) {
-        const word *row = mzd_row(m, i);
-        while (!row[l])
-            l++;
-        word others = row[l] & (row[l] - 1);
-        for (int s = l + 1; s < w; s++)
-            others |= row[s];
-        if (others)
-            continue;
-        int block = 64 * l + __builtin_ctzll(row[l]);
-        memcpy(to + (size_t)block * (size_t)v, row + w, (size_t)v * 8);
-        marked[block] = 1;
-        found++;
-    }
-    return found;
-}
-
-static void solving(int how, int k)
-{
-    size_t rows = (size_t)input.rows, columns = (size_t)input.columns, n = (size_t)blocks;
-    if (how == OURS) {
-        said = chhayublo_solve(words, rows * width(input.columns), rows, columns, n, (size_t)k, result,
-                               n * width(image.columns), marks, n, room, table_room(k));
-    } else {
-        echelonize(how, k);
-        their_known = read_off(theirs, their_rank, result, marks);
-    }
-}
-
-static const char *wrong_solving(int how, int k)
-{
-    int total = 0;
-    for (int j = 0; j < blocks; j++)
-        total += known[j];
-    if ((how == OURS ? (int)said.known : their_known) != total)
-        return "number of known blocks";
-    if (memcmp(marks, known, (size_t)blocks))
-        return "marks";
-    if (!same(bits_of(result, blocks, 0, image.columns), &shown))
-        return "image";
-    return wrong_reduction(how, k);
-}
+#include "calls.h"
 
 // ---- the methods of a call, and the lines that its problems print
 
@@ -517,120 +80,15 @@ static const call solve = {.first = CALL,
                            .refusing_end = METHODS,
                            .lines = {{"", CALL, THEIRS, METHODS}}};
 
-static double seconds(void)
-{
-    struct timespec t;
-    clock_gettime(CLOCK_MONOTONIC, &t);
-    return (double)t.tv_sec + 1e-9 * (double)t.tv_nsec;
-}
-
-// one run of method x on a fresh copy: its time
-static double run(const call *c, int x)
-{
-    int how = methods[x].how;
-    if (how == TWO_SLICES)
-        memcpy(words, beside, (size_t)input.rows * width(input.columns + input.rows) * 8);
-    else if (how == OURS)
-        memcpy(words, fresh, (size_t)input.rows * width(input.columns) * 8);
-    else
-        mzd_copy(theirs, their_fresh);
-    double start = seconds();
-    c->run(how, methods[x].k);
-    return seconds() - start;
-}
-
-// what is wrong with the answer that method x gives, or with its refusal of spoiled input; 0 if nothing is
-static const char *wrong(const call *c, int x, int spoiled)
-{
-    int how = methods[x].how, k = methods[x].k;
-    litter();
-    run(c, x);
-    if (how == OURS && !room_clean(c->room(k)))
-        return "work room";
-    if ((how == OURS || how == TWO_SLICES) && said.refusal != (spoiled ? (uint64_t)c->refusal : 0))
-        return "refusal";
-    if (!spoiled)
-        return c->wrong(how, k);
-    if (how != OURS && their_known != -1)
-        return "number of known blocks";
-    return is_junk(result, sizeof result) && is_junk(marks, sizeof marks) ? 0 : "result, which must stay as it was";
-}
-
-// checks methods on the input: 1 if an answer was wrong
-static int check(const call *c, const char *name, int first, int end, int spoiled)
-{
-    int failed = 0;
-    load(c->first == AS_REDUCTION);
-    for (int x = first; x < end; x++) {
-        const char *what = wrong(c, x, spoiled);
-        if (what) {
-            printf("%s%s: %s: wrong %s\n", name, spoiled ? ", spoiled" : "", methods[x].name, what);
-            failed = 1;
-        }
-    }
-    return failed;
-}
-
-// the least time of each method; the number of rounds
-static int measure(const call *c, double time, double *least)
-{
-    int order[METHODS], rounds = 0;
-    for (int x = c->first; x < c->end; x++) {
-        order[x] = x;
-        least[x] = 1e9;
-    }
-    for (double end = seconds() + time; rounds < 20 || seconds() < end; rounds++) {
-        for (int l = c->end - 1; l > c->first; l--) { // a random order
-            int other = c->first + below(l + 1 - c->first), x = order[l];
-            order[l] = order[other];
-            order[other] = x;
-        }
-        for (int l = c->first; l < c->end; l++) {
-            double t = run(c, order[l]);
-            if (t < least[order[l]])
-                least[order[l]] = t;
-        }
-    }
-    return rounds;
-}
-
-static void print_lines(const call *c, const char *name, const double *least, int rounds)
-{
-    for (int l = 0; l < 3 && c->lines[l].suffix; l++) {
-        char whole[80];
-        int ours = c->lines[l].ours, best = c->lines[l].theirs;
-        for (int x = best; x < c->lines[l].end; x++)
-            if (least[x] < least[best])
-                best = x;
-        snprintf(whole, sizeof whole, "%s%s", name, c->lines[l].suffix);
-        printf("%-22s %5d %8.2f %8.2f    %7.1f us, %-12s %6d\n", whole, rank, least[ours] / least[best],
-               least[ours + 1] / least[best], 1e6 * least[best], methods[best].name, rounds);
-    }
-    fflush(stdout);
-}
-
-// checks and times all methods on one problem: 1 if an answer was wrong
-static int problem(const call *c, const char *name, double time)
-{
-    static bits whole;
-    double least[METHODS];
-    int failed = 0;
-    if (c->refusal) {
-        whole = input;
-        spoil(&input);
-        failed = check(c, name, CALL, c->refusing_end, 1);
-        unload();
-        input = whole;
-    }
-    expect();
-    failed |= check(c, name, c->first, c->end, 0);
-    int rounds = measure(c, time, least);
-    print_lines(c, name, least, rounds);
-    unload();
-    return failed;
-}
-
 // ---- the problems
+
+typedef struct {
+    char name[40];
+    const call *call;
+    int rows, columns, blocks;
+    void (*make)(bits *);
+    uint64_t number; // its inputs are made from it
+} problem;
 
 static const struct {
     const char *name;
@@ -642,46 +100,348 @@ static const int shapes[][2] = {{512, 1024}, {512, 512}, {500, 1000}, {256, 512}
 static const int sizes[] = {512, 256, 128};
 static const int lists[][3] = {{512, 512, 512}, {256, 768, 320}}; // blocks, their bits, packets
 
-static double time_each = 1;
-static const char *part = "";
+enum { KINDS = sizeof kinds / sizeof *kinds, SHAPES = sizeof shapes / sizeof *shapes };
+enum { SIZES = sizeof sizes / sizeof *sizes, LISTS = sizeof lists / sizeof *lists };
 
-// one problem, if its name is asked for: 1 if an answer was wrong
-static int attempt(const call *c, const char *name, int rows, int columns, void (*make)(bits *), size_t number)
+static problem problems[ROWS / 32 + SHAPES * KINDS + SIZES + LISTS];
+static int problem_count;
+
+// the next problem; its name is still to be given
+static problem *list(const call *c, int rows, int columns, void (*make)(bits *), int number)
 {
-    if (!strstr(name, part))
-        return 0;
-    seed = 0x9d5c1f3b7a2e4681u + number;
-    clear(&input, rows, columns);
-    make(&input);
-    return problem(c, name, time_each);
+    problem *p = &problems[problem_count++];
+    *p = (problem){.call = c, .rows = rows, .columns = columns, .make = make, .number = (uint64_t)number};
+    return p;
+}
+
+static void list_all(void)
+{
+    for (int n = 32; n <= ROWS; n += 32) // for the picture alone
+        sprintf(list(&reduce, n, 2 * n, uniform, 1024 + n)->name, "growing %dx%d", n, 2 * n);
+    for (int s = 0; s < SHAPES; s++)
+        for (int l = 0; l < KINDS; l++) {
+            int rows = shapes[s][0], columns = shapes[s][1];
+            sprintf(list(&reduce, rows, columns, kinds[l].make, 16 * s + l)->name, "%dx%d %s", rows, columns, kinds[l].name);
+        }
+    for (int s = 0; s < SIZES; s++)
+        sprintf(list(&invert, sizes[s], sizes[s], invertible, 256 + s)->name, "inverse %d", sizes[s]);
+    for (int s = 0; s < LISTS; s++) {
+        const int *l = lists[s];
+        problem *p = list(&solve, l[2], l[0] + l[1], packets, 512 + s);
+        p->blocks = l[0];
+        sprintf(p->name, "solving n%d p%d m%d", l[0], l[1], l[2]);
+    }
+}
+
+static int begins(const char *line, const char *with) { return !strncmp(line, with, strlen(with)); }
+
+static int asked_for(const problem *p, const char *part)
+{
+    return strstr(p->name, part) && (begins(part, "growing") || !begins(p->name, "growing"));
+}
+
+// ---- running and checking
+
+static double seconds(void)
+{
+    struct timespec t;
+    clock_gettime(CLOCK_MONOTONIC, &t);
+    return (double)t.tv_sec + 1e-9 * (double)t.tv_nsec;
+}
+
+// one run of method x on a fresh copy of input l: its time
+static double run(const call *c, int x, int l)
+{
+    int how = methods[x].how;
+    if (how == TWO_SLICES)
+        memcpy(words, beside[l], (size_t)input.rows * width(input.columns + input.rows) * 8);
+    else if (how == OURS)
+        memcpy(words, fresh[l], (size_t)input.rows * width(input.columns) * 8);
+    else
+        mzd_copy(theirs, their_fresh[l]);
+    double start = seconds();
+    c->run(how, methods[x].k);
+    return seconds() - start;
+}
+
+// what is wrong with the answer that method x gives, or with its refusal of spoiled input; 0 if nothing is
+static const char *wrong(const call *c, int x, int l, int spoiled)
+{
+    int how = methods[x].how, k = methods[x].k;
+    litter();
+    run(c, x, l);
+    if (how == OURS && !room_clean(c->room(k)))
+        return "work room";
+    if ((how == OURS || how == TWO_SLICES) && said.refusal != (spoiled ? (uint64_t)c->refusal : 0))
+        return "refusal";
+    if (!spoiled)
+        return c->wrong(how, k);
+    if (how != OURS && their_known != -1)
+        return "number of known blocks";
+    return is_junk(result, sizeof result) && is_junk(marks, sizeof marks) ? 0 : "result, which must stay as it was";
+}
+
+// loads the input at hand as number l and checks methods on it: 1 if an answer was wrong
+static int check(const problem *p, int l, int first, int end, int spoiled)
+{
+    int failed = 0;
+    load(l, p->call->first == AS_REDUCTION);
+    for (int x = first; x < end; x++) {
+        const char *what = wrong(p->call, x, l, spoiled);
+        if (what) {
+            printf("%s, input %d%s: %s: wrong %s\n", p->name, l + 1, spoiled ? ", spoiled" : "", methods[x].name, what);
+            failed = 1;
+        }
+    }
+    return failed;
+}
+
+static const uint64_t SEED = 0x9d5c1f3b7a2e4681u;
+static int least_rank, greatest_rank;
+
+static int smaller(int a, int b) { return a < b ? a : b; }
+
+// loads a problem's inputs and checks the methods before `end` on each: 1 if an answer was wrong
+static int prepare(const problem *p, int end)
+{
+    static bits whole;
+    const call *c = p->call;
+    int failed = 0;
+    blocks = p->blocks;
+    resize_theirs(p->rows, p->columns);
+    least_rank = ROWS;
+    greatest_rank = 0;
+    for (int l = 0; l < INPUTS; l++) {
+        seed = SEED + p->number + 4096u * (uint64_t)l;
+        clear(&input, p->rows, p->columns);
+        p->make(&input);
+        if (c->refusal) {
+            whole = input;
+            spoil(&input);
+            failed |= check(p, l, CALL, smaller(end, c->refusing_end), 1);
+            input = whole;
+        }
+        expect();
+        failed |= check(p, l, c->first, smaller(end, c->end), 0);
+        least_rank = smaller(least_rank, rank);
+        greatest_rank = rank > greatest_rank ? rank : greatest_rank;
+    }
+    return failed;
+}
+
+// the times of method x on the inputs in turn. It begins with any of them, since the first run suffers from what ran before.
+static void time_inputs(const call *c, int x, double *times)
+{
+    for (int i = 0, l = below(INPUTS); i < INPUTS; i++, l = (l + 1) % INPUTS)
+        times[l] = run(c, x, l);
+}
+
+// ---- two builds: a process of each answers, and the one that prints asks them in turn
+
+enum { THIS, OTHER };
+
+static struct {
+    FILE *asks, *answers;
+} builds[2]; // the pipes to and from their processes; 0 where this build runs alone
+
+static int compared(void) { return builds[THIS].asks != 0; }
+
+static const char *build_name(int build) { return build == THIS ? "this build" : "the other build"; }
+
+static void ask(int build, const char *what, const char *name)
+{
+    fprintf(builds[build].asks, "%s %s\n", what, name);
+    fflush(builds[build].asks);
+}
+
+static const char *answer_of(int build)
+{
+    static char line[400];
+    if (!fgets(line, sizeof line, builds[build].answers)) {
+        printf("%s: ended without an answer\n", build_name(build));
+        exit(1);
+    }
+    return line;
+}
+
+// lets a build's process load and check its inputs: 1 if an answer was wrong
+static int ask_check(int build, const problem *p, unsigned long long *number)
+{
+    int failed = 0;
+    ask(build, "check", p->name);
+    for (;;) {
+        const char *line = answer_of(build);
+        if (sscanf(line, "ready %llx %d %d", number, &least_rank, &greatest_rank) == 3)
+            return failed;
+        printf("%s: %s", build_name(build), line);
+        failed = 1;
+    }
+}
+
+static int ask_both(const problem *p)
+{
+    unsigned long long numbers[2];
+    int failed = ask_check(THIS, p, &numbers[THIS]);
+    failed |= ask_check(OTHER, p, &numbers[OTHER]);
+    if (numbers[THIS] != numbers[OTHER]) {
+        printf("%s: the inputs of the two builds differ and cannot be compared\n", p->name);
+        exit(2);
+    }
+    return failed;
+}
+
+static void ask_times(int build, int x, double *times)
+{
+    ask(build, "time", methods[x].name);
+    const char *from = answer_of(build);
+    for (int l = 0; l < INPUTS; l++) {
+        char *end;
+        times[l] = strtod(from, &end);
+        from = end;
+    }
+}
+
+static const problem *problem_named(const char *name)
+{
+    for (const problem *p = problems; p < problems + problem_count; p++)
+        if (!strcmp(p->name, name))
+            return p;
+    fprintf(stderr, "no problem has the name %s\n", name);
+    exit(2);
+}
+
+static int method_named(const char *name)
+{
+    for (int x = 0; x < METHODS; x++)
+        if (!strcmp(methods[x].name, name))
+            return x;
+    fprintf(stderr, "no method has the name %s\n", name);
+    exit(2);
+}
+
+// Answers standard input, for the methods before `end`:
+//   check PROBLEM   a line for each wrong answer, then 'ready', a number made of the inputs, their least and greatest rank
+//   time METHOD     the times of a method on the inputs, in seconds, in one line
+static int answer(int end)
+{
+    char line[80];
+    double times[INPUTS];
+    const problem *p = 0;
+    while (fgets(line, sizeof line, stdin)) {
+        line[strcspn(line, "\n")] = 0;
+        if (begins(line, "check ")) {
+            p = problem_named(line + 6);
+            prepare(p, end);
+            printf("ready %llx %d %d\n", (unsigned long long)digest(), least_rank, greatest_rank);
+        } else if (begins(line, "time ") && p) {
+            time_inputs(p->call, method_named(line + 5), times);
+            for (int l = 0; l < INPUTS; l++)
+                printf("%.9f%c", times[l], l < INPUTS - 1 ? ' ' : '\n');
+        } else {
+            return 2;
+        }
+        fflush(stdout);
+    }
+    return 0;
+}
+
+// ---- measuring
+
+static double least[2][METHODS][INPUTS]; // the least time of each build's methods on each input
+
+static void step(int build, const call *c, int x)
+{
+    double times[INPUTS];
+    if (compared())
+        ask_times(build, x, times);
+    else
+        time_inputs(c, x, times);
+    for (int l = 0; l < INPUTS; l++)
+        if (times[l] < least[build][x][l])
+            least[build][x][l] = times[l];
+}
+
+// rounds until the time is up, our methods in both builds one right after the other: how many rounds
+static int measure(const call *c, double time)
+{
+    int order[METHODS], rounds = 0;
+    for (int x = c->first; x < c->end; x++) {
+        order[x] = x;
+        for (int l = 0; l < INPUTS; l++)
+            least[THIS][x][l] = least[OTHER][x][l] = 1e9;
+    }
+    for (double end = seconds() + time; rounds < 10 || seconds() < end; rounds++) {
+        for (int l = c->end - 1; l > c->first; l--) { // a random order
+            int other = c->first + below(l + 1 - c->first), x = order[l];
+            order[l] = order[other];
+            order[other] = x;
+        }
+        for (int l = c->first; l < c->end; l++) {
+            int both = compared() && order[l] < THEIRS, build = both ? coin() : THIS;
+            step(build, c, order[l]);
+            if (both)
+                step(!build, c, order[l]);
+        }
+    }
+    return rounds;
+}
+
+static double mean(int build, int x)
+{
+    double sum = 0;
+    for (int l = 0; l < INPUTS; l++)
+        sum += least[build][x][l];
+    return sum / INPUTS;
+}
+
+// ---- the table
+
+static void print_header(void)
+{
+    printf("%-22s %7s %8s %8s    %-24s %6s", "problem", "rank", "k = 8", "k = 7", "libm4ri's best", "rounds");
+    puts(compared() ? "   new/old k = 8   new/old k = 7" : "");
+}
+
+static void print_lines(const problem *p, int rounds)
+{
+    const call *c = p->call;
+    char ranks[24];
+    int length = sprintf(ranks, "%d", least_rank);
+    if (greatest_rank > least_rank)
+        sprintf(ranks + length, "-%d", greatest_rank);
+    for (int l = 0; l < 3 && c->lines[l].suffix; l++) {
+        int ours = c->lines[l].ours, best = c->lines[l].theirs;
+        for (int x = best; x < c->lines[l].end; x++)
+            if (mean(THIS, x) < mean(THIS, best))
+                best = x;
+        double new_8 = mean(THIS, ours), new_7 = mean(THIS, ours + 1), their_time = mean(THIS, best);
+        printf("%s%-*s %7s %8.2f %8.2f    %7.1f us, %-12s %6d", p->name, 22 - (int)strlen(p->name), c->lines[l].suffix,
+               ranks, new_8 / their_time, new_7 / their_time, 1e6 * their_time, methods[best].name, rounds);
+        if (compared())
+            printf("   %13.2f   %13.2f", new_8 / mean(OTHER, ours), new_7 / mean(OTHER, ours + 1));
+        puts("");
+    }
+    fflush(stdout);
 }
 
 int main(int argc, char **argv)
 {
+    list_all();
+    if (argc == 3 && !strcmp(argv[1], "answer"))
+        return answer(strcmp(argv[2], "ours") ? METHODS : THEIRS);
+    if (argc != 3 && argc != 7)
+        return 2;
+    for (int build = THIS; build <= OTHER && argc == 7; build++)
+        if (!(builds[build].asks = fopen(argv[3 + 2 * build], "w")) ||
+            !(builds[build].answers = fopen(argv[4 + 2 * build], "r")))
+            return 2;
     int failed = 0;
-    char name[64];
-    if (argc > 1)
-        time_each = atof(argv[1]);
-    if (argc > 2)
-        part = argv[2];
-    printf("%-22s %5s %8s %8s    %-24s %6s\n", "problem", "rank", "k = 8", "k = 7", "libm4ri's best", "rounds");
-    for (int n = 32; n <= ROWS && !strcmp(part, "growing"); n += 32) { // for the picture alone
-        snprintf(name, sizeof name, "growing %dx%d", n, 2 * n);
-        failed |= attempt(&reduce, name, n, 2 * n, uniform, 1024 + (size_t)n);
-    }
-    for (size_t s = 0; s < sizeof shapes / sizeof *shapes; s++)
-        for (size_t l = 0; l < sizeof kinds / sizeof *kinds; l++) {
-            snprintf(name, sizeof name, "%dx%d %s", shapes[s][0], shapes[s][1], kinds[l].name);
-            failed |= attempt(&reduce, name, shapes[s][0], shapes[s][1], kinds[l].make, 16 * s + l);
+    seed = SEED;
+    print_header();
+    for (const problem *p = problems; p < problems + problem_count; p++)
+        if (asked_for(p, argv[2])) {
+            failed |= compared() ? ask_both(p) : prepare(p, METHODS);
+            print_lines(p, measure(p->call, atof(argv[1])));
         }
-    for (size_t s = 0; s < sizeof sizes / sizeof *sizes; s++) {
-        snprintf(name, sizeof name, "inverse %d", sizes[s]);
-        failed |= attempt(&invert, name, sizes[s], sizes[s], invertible, 256 + s);
-    }
-    for (size_t s = 0; s < sizeof lists / sizeof *lists; s++) {
-        blocks = lists[s][0];
-        snprintf(name, sizeof name, "solving n%d p%d m%d", blocks, lists[s][1], lists[s][2]);
-        failed |= attempt(&solve, name, lists[s][2], blocks + lists[s][1], packets, 512 + s);
-    }
     return failed;
 }
