@@ -15,8 +15,11 @@ module _ (rows columns k : ℕ) (m room room′ room₂ : List ℕ) (s : Slice r
   one-room true true d g =
       let w : ℕ = wordsOf (columns + rows) in
       let roomy = d .0 .roomy in
-      let e = add-mul rows (2 ^ k) w in
-      (refl, same-words w rows room′ room₂ (s .fit) (s₂ .fit) (omega (arith, roomy, e, s .size)) (omega (arith, roomy, e, s₂ .size)) (one-reduced-form (d .1) (g .1)) (d .2 ∙ sym (g .2)))
+      let e = add-mul rows (2 ^ k) w in (
+        refl,
+        same-words w rows room′ room₂ (s .fit) (s₂ .fit) (omega (arith, roomy, e, s .size)) (omega (arith, roomy, e, s₂ .size)) (one-reduced-form (d .1 .form) (g .1 .form))
+            (d .1 .behind ∙ sym (g .1 .behind)),
+      )
   one-room false false d g = (refl, d .1 ∙ sym (g .1))
   one-room true false d g = absurd (g .0 (d .0))
   one-room false true d g = absurd (d .0 (g .0))

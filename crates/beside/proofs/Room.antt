@@ -8,30 +8,26 @@ use native.Mathlib.Omega.{arith}
 use lib.ListN.{length, drop, replicate, length-replicate, replicate-append-replicate}
 use lib.Seq.{take-all}
 use Rattle.gf2.specs.Rows.{row}
-use Rattle.gf2.specs.Reduced.{ReducedForm}
 use Rattle.gf2.specs.Inverse.{adjoin}
 use Rattle.gf2.proofs.Adjoin.{adjoin-narrow}
 use Rattle.gf2.proofs.Space.{same-narrow}
-use Rattle.words.specs.Words.{wordsOf, rowsOf}
+use Rattle.words.specs.Words.{wordsOf, rowsOf, Clean, zeroed}
 use Rattle.words.proofs.Rows.{length-rows}
-use Rattle.engine.specs.Core.{zeroed}
-use Rattle.beside.specs.Beside.{Fits, besideReduced}
+use Rattle.beside.specs.Beside.{FitsBeside, Beside, besideReduced}
 
 -- ---- where the shapes fit
 
-module _ (rows columns k : ℕ) (m room room₁ : List ℕ) (fits : Fits rows columns k m (length room)) where
-  pub room-reduced : (done : Bool) → besideReduced done rows columns k m room room₁
-      → ReducedForm (adjoin columns (rowsOf (wordsOf columns) rows m)) (rowsOf (wordsOf (columns + rows)) rows room₁)
-      × (drop (rows * wordsOf (columns + rows)) room₁ ≡ replicate (2 ^ k * wordsOf (columns + rows)) 0 ++ drop ((rows + 2 ^ k) * wordsOf (columns + rows)) room)
-  room-reduced true b = (b .1, b .2)
-  room-reduced false b = absurd (b .0 fits)
+pub room-reduced : (rows columns k : ℕ) (m room room₁ : List ℕ) → FitsBeside rows columns k m (length room) → (done : Bool) → besideReduced done rows columns k m room room₁
+    → Beside rows columns k m room room₁
+room-reduced rows columns k m room room₁ fits true b = b .1
+room-reduced rows columns k m room room₁ fits false b = absurd (b .0 fits)
 
-  pub room-narrow : ReducedForm (adjoin columns (rowsOf (wordsOf columns) rows m)) (rowsOf (wordsOf (columns + rows)) rows room₁)
-      → (i : ℕ) → row (rowsOf (wordsOf (columns + rows)) rows room₁) i < 2 ^ (columns + rows)
-  room-narrow form =
-      let L : List ℕ = rowsOf (wordsOf columns) rows m in
-      same-narrow (columns + rows) (adjoin columns L) (rowsOf (wordsOf (columns + rows)) rows room₁) (form .space)
-      (subst (λ (x : ℕ). (i : ℕ) → row (adjoin columns L) i < 2 ^ (columns + x)) (length-rows (wordsOf columns) rows m) (adjoin-narrow columns L (fits .clean)))
+-- the rows in the room are no wider than matrix and identity together
+pub room-clean : (rows columns k : ℕ) (m room room₁ : List ℕ) → Clean rows columns m → Beside rows columns k m room room₁ → Clean rows (columns + rows) room₁
+room-clean rows columns k m room room₁ clean b =
+    let L : List ℕ = rowsOf (wordsOf columns) rows m in
+    same-narrow (columns + rows) (adjoin columns L) (rowsOf (wordsOf (columns + rows)) rows room₁) (b .form .space)
+    (subst (λ (x : ℕ). (i : ℕ) → row (adjoin columns L) i < 2 ^ (columns + x)) (length-rows (wordsOf columns) rows m) (adjoin-narrow columns L clean))
 
 -- ---- the whole room cleared
 

@@ -7,7 +7,7 @@ ghost use Rattle.gf2.specs.Rows.{_⊕_, part};
 ghost use Rattle.gf2.specs.Inverse.{adjoin};
 ghost use Rattle.words.specs.Words.{value, wordsOf, rowsOf, firstWords, windowBits};
 ghost use Rattle.refusals.specs.Outcome.{Decides};
-ghost use Rattle.beside.specs.Beside.{Fits, besideReduced};
+ghost use Rattle.beside.specs.Beside.{FitsBeside, besideReduced};
 
 // word l of a row whose only one is in column c
 fn unit_word(c: usize, l: usize) -> u64
@@ -23,7 +23,7 @@ fn put(room: &mut [u64], to: usize, v: usize, m: &[u64], at: usize, w: usize, c:
 {
     let mut l = 0;
     while l < v {
-        room[to + l] = refusals::word(m, at, w, l) ^ unit_word(c, l);
+        room[to + l] = words::word(m, at, w, l) ^ unit_word(c, l);
         l += 1;
     }
 }
@@ -42,10 +42,9 @@ fn adjoin(room: &mut [u64], v: usize, m: &[u64], w: usize, rows: usize, columns:
 
 // whether the shapes are those that the call below takes
 fn fits(m: &[u64], rows: usize, columns: usize, k: usize, room: usize) -> bool
-    ensures { λ r. ⌜ Decides r (Fits rows columns k (now (m .entry)) room) ⌝ }
+    ensures { λ r. ⌜ Decides r (FitsBeside rows columns k (now (m .entry)) room) ⌝ }
 {
-    let o = refusals::too_many_rows(rows)
-        .and_then(refusals::bad_columns(columns))
+    let o = refusals::sizes(rows, columns)
         .and_then(refusals::too_wide(columns, rows))
         .and_then(refusals::bad_k(k));
     if o.number() != 0 {
@@ -54,7 +53,7 @@ fn fits(m: &[u64], rows: usize, columns: usize, k: usize, room: usize) -> bool
     if refusals::short_room(rows, k, columns + rows, room).number() != 0 {
         return false;
     }
-    refusals::holds(m, rows, columns)
+    words::hold_rows(m, rows, columns)
 }
 
 // the matrix in m, with an identity on its right, is written to the room and reduced there; the table's words behind it end zero. Where the
@@ -67,9 +66,9 @@ pub fn reduce(room: &mut [u64], m: &[u64], rows: usize, columns: usize, k: usize
     }
     adjoin(
         room,
-        refusals::words(columns + rows),
+        words::per_row(columns + rows),
         m,
-        refusals::words(columns),
+        words::per_row(columns),
         rows,
         columns,
     );

@@ -14,7 +14,7 @@ use lib.Seq.{paste, take-all}
 use mir.Val.{Fits}
 use mir.Syntax.{w8}
 use Rattle.gf2.specs.Rows.{row}
-use Rattle.words.specs.Words.{wordsOf, rowsOf, flat}
+use Rattle.words.specs.Words.{wordsOf, rowsOf, flat, narrow}
 use Rattle.words.proofs.Parts.{paste-more}
 use Rattle.words.proofs.Rows.{length-rows, row-ends, last-word-row, last-word-row-full}
 use Rattle.words.proofs.Flat.{flat-rows, rows-flat}
@@ -22,8 +22,7 @@ use Rattle.wire.specs.Bytes.{Bytes, num}
 use Rattle.wire.specs.Kinds.{order, wordsAt}
 use Rattle.wire.proofs.Bytes.{num-lt}
 use Rattle.wire.proofs.Orders.{length-words, getD-words, words-fit}
-use Rattle.refusals.specs.Checks.{narrow}
-use Rattle.refusals.proofs.Padding.{narrow-all, narrow-not}
+use Rattle.words.proofs.Padding.{narrow-all, narrow-not}
 use Rattle.bundle.specs.Bundle.{Entry, bodyWords, matrixAt}
 
 pub small : (n w : ℕ) → n ≤ 512 → w ≤ 16 → n * w ≤ 8192

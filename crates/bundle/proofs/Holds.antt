@@ -2,16 +2,17 @@
 use mathlib.Core.Path.{_≡_, refl}
 use mathlib.Core.List.{[], _∷_, map}
 use Prim.Native.Nat.{_+_, _^_}
-use Rattle.words.specs.Words.{rowsOf}
+use Rattle.words.specs.Words.{rowsOf, narrow}
 use Rattle.wire.specs.Bytes.{num}
 use Rattle.wire.specs.Kinds.{order, wordsAt}
-use Rattle.refusals.specs.Checks.{narrow}
-use Rattle.bundle.specs.Bundle.{bodyWords, matrixAt, kindRule, bothKinds, badShape, bodyChecks, entryChecks, entriesChecks, bundleChecks, entryAt, entriesFrom, entriesOf, bundle, meaning}
+use Rattle.refusals.specs.Checks.{tooManyRows, badColumns, sizeChecks}
+use Rattle.bundle.specs.Bundle.{bodyWords, matrixAt, kindRule, bothKinds, badShape, bodyOrder, entryOrder, entriesChecks, bundleOrder, entryAt, entriesFrom, entriesOf, bundle, meaning}
 use Rattle.bundle.specs.Answers.{countedNumber, countedIn}
 use Rattle.bundle.specs.Sample.{sample, mixed, matrices, Example, table}
 
 pub sample-means : meaning bothKinds sample ≡ bundle (matrices 1)
-unfolding sample matrices meaning bundleChecks entriesChecks entryChecks bodyChecks badShape kindRule matrixAt bodyWords narrow rowsOf wordsAt order num entriesOf entriesFrom entryAt
+unfolding sample matrices meaning bundleOrder entriesChecks entryOrder bodyOrder badShape sizeChecks tooManyRows badColumns kindRule
+    matrixAt bodyWords narrow rowsOf wordsAt order num entriesOf entriesFrom entryAt
 sample-means = refl
 
 -- column 0 of kind 2 has weight 2 ^ 63, and the matrix is the same
@@ -20,9 +21,11 @@ unfolding mixed wordsAt order num
 mixed-words = refl
 
 pub mixed-means : meaning bothKinds mixed ≡ bundle (matrices 2)
-unfolding mixed matrices meaning bundleChecks entriesChecks entryChecks bodyChecks badShape kindRule matrixAt bodyWords narrow rowsOf wordsAt order num entriesOf entriesFrom entryAt
+unfolding mixed matrices meaning bundleOrder entriesChecks entryOrder bodyOrder badShape sizeChecks tooManyRows badColumns kindRule
+    matrixAt bodyWords narrow rowsOf wordsAt order num entriesOf entriesFrom entryAt
 mixed-means = refl
 
 pub table-holds : map (λ (e : Example). countedNumber (countedIn (meaning bothKinds (e .bytes)))) table ≡ map (λ (e : Example). e .number) table
-unfolding table meaning bundleChecks entriesChecks entryChecks bodyChecks badShape kindRule matrixAt bodyWords narrow rowsOf wordsAt order num entriesOf entriesFrom entryAt countedIn
+unfolding table meaning bundleOrder entriesChecks entryOrder bodyOrder badShape sizeChecks tooManyRows badColumns kindRule
+    matrixAt bodyWords narrow rowsOf wordsAt order num entriesOf entriesFrom entryAt countedIn
 table-holds = refl

@@ -13,12 +13,12 @@ use Rattle.refusals.specs.declared.Refusal.{Refusal}
 use Rattle.refusals.specs.declared.Refusal.the-variants.{NotBelow, WrongLength}
 use Rattle.refusals.specs.declared.Outcome.{Outcome}
 use Rattle.refusals.specs.declared.Outcome.the-variants.{Done, Refused}
-use Rattle.bundle.specs.Bundle.{countOf, kindAt, rowsAt, columnsAt, offsetAt, wordsIn, badShape, bundleChecks, entryAt, entriesFrom, entriesOf, meantBy, meaning}
-use Rattle.bundle.specs.Answers.{countedIn, Found, found, missing, entryIn, find, toldOf, fitting, lentFor, unpackedOf}
+use Rattle.bundle.specs.Bundle.{countOf, kindAt, rowsAt, columnsAt, offsetAt, wordsIn, bundleChecks, entryAt, entriesFrom, entriesOf, meantBy, meaning}
+use Rattle.bundle.specs.Answers.{countedIn, Lookup, found, missing, entryIn, find, toldOf, fitting, lentFor, lentEntry, unpackedOf}
 use Rattle.bundle.specs.declared.Counted.the-variants as counted
 use Rattle.bundle.specs.declared.Told.{Told}
 use Rattle.bundle.specs.declared.Told.the-variants as told
-use Rattle.bundle.proofs.Passing.{shape-passes, accepted, Good, good}
+use Rattle.bundle.proofs.Passing.{accepted, Good, good}
 use Rattle.bundle.proofs.Bodies.{flat-matrix}
 
 -- ---- n entries from entry j on
@@ -84,17 +84,17 @@ module _ (rule : ℕ → Outcome) (b : List ℕ) (o : Outcome) (eo : o ≡ bundl
 
 -- ---- what is told of it
 
-pub told-missing : (F : Found) (r : Refusal) → F ≡ missing r → told.Refused r ≡ toldOf F
+pub told-missing : (F : Lookup) (r : Refusal) → F ≡ missing r → told.Refused r ≡ toldOf F
 unfolding toldOf
 told-missing F r e = sym (ap toldOf e)
 
-pub told-found : (F : Found) (t : Told) (i : ℕ) (b : List ℕ) → t ≡ told.Entry (kindAt i b) (rowsAt i b) (columnsAt i b) → F ≡ found (entryAt i b) → t ≡ toldOf F
+pub told-found : (F : Lookup) (t : Told) (i : ℕ) (b : List ℕ) → t ≡ told.Numbers (kindAt i b) (rowsAt i b) (columnsAt i b) → F ≡ found (entryAt i b) → t ≡ toldOf F
 unfolding toldOf entryAt
 told-found F t i b et e = et ∙ sym (ap toldOf e)
 
 -- ---- words lent for it
 
-module _ (n : ℕ) (F : Found) where
+module _ (n : ℕ) (F : Lookup) where
   pub lent-missing : (r : Refusal) → F ≡ missing r → lentFor n F ≡ missing r
   unfolding lentFor
   lent-missing r e = ap (lentFor n) e
@@ -108,20 +108,40 @@ module _ (n : ℕ) (F : Found) where
     unfolding lentFor entryAt
     lent-fit z = ap (lentFor n) e ∙ ap (λ (t : Bool). fitting t (entryAt i b)) (eq-eqb n (wordsIn i b) (z ∙ ew))
 
-module _ (rule : ℕ → Outcome) (i : ℕ) (b : List ℕ) (g : Good rule i b) where
-  pub good-shape : badShape (rowsAt i b) (columnsAt i b) ≡ Done
-  good-shape = shape-passes (rowsAt i b) (columnsAt i b) (g .entry .shape)
+-- ---- unpacking, case by case: what is told, and what the words have become
 
-  pub good-room : (n w : ℕ) → n ≡ w → w ≡ wordsIn i b → offsetAt i b + 8 * n ≤ length b
-  good-room n w en ew = subst (λ (x : ℕ). offsetAt i b + 8 * x ≤ length b) (sym (en ∙ ew)) (g .entry .body .inside)
+abbrev Unpacks : Lookup → List ℕ → Told → List ℕ → Type 0
+Unpacks F ws t out = (t ≡ toldOf F) × (out ≡ unpackedOf F ws)
 
-pub kept : (F : Found) (r : Refusal) (ws : List ℕ) → F ≡ missing r → ws ≡ unpackedOf F ws
+nothing : (F : Lookup) (r : Refusal) (ws : List ℕ) → F ≡ missing r → Unpacks F ws (told.Refused r) ws
 unfolding unpackedOf
-kept F r ws e = sym (ap (λ (x : Found). unpackedOf x ws) e)
+nothing F r ws e = (told-missing F r e, sym (ap (λ (x : Lookup). unpackedOf x ws) e))
 
-pub unpacked : (F : Found) (i n w : ℕ) (b ws out : List ℕ) → Bytes b → F ≡ found (entryAt i b) → n ≡ w → w ≡ wordsIn i b
-    → out ≡ wordsAt (kindAt i b) (offsetAt i b) n b → out ≡ unpackedOf F ws
-unfolding unpackedOf entryAt
-unpacked F i n w b ws out f e en ew eo =
-    eo ∙ ap (λ (k : ℕ). wordsAt (kindAt i b) (offsetAt i b) k b) (en ∙ ew) ∙ sym (flat-matrix (kindAt i b) (offsetAt i b) (rowsAt i b) (columnsAt i b) b f)
-    ∙ sym (ap (λ (x : Found). unpackedOf x ws) e)
+module _ (rule : ℕ → Outcome) (b : List ℕ) (o : Outcome) (eo : o ≡ bundleChecks rule b) (i : ℕ) (ws : List ℕ) where
+  abbrev F : Lookup
+  F = find i (meaning rule b)
+
+  pub unpack-refused : (r : Refusal) → o ≡ Refused r → Unpacks (lentEntry rule i b ws) ws (told.Refused r) ws
+  unpack-refused r e = nothing _ r ws (lent-missing (length ws) F r (find-refused rule b o eo i r e))
+
+  module _ (e : o ≡ Done) (n : ℕ) (en : n ≡ countOf b) where
+    pub unpack-past : n ≤ i → Unpacks (lentEntry rule i b ws) ws (told.Refused NotBelow) ws
+    unpack-past h = nothing _ NotBelow ws (lent-missing (length ws) F NotBelow (find-past rule b o eo e n en i h))
+
+    module _ (h : i < n) (w : ℕ) (ew : w ≡ wordsIn i b) where
+      pub unpack-unfit : length ws ≢ w → Unpacks (lentEntry rule i b ws) ws (told.Refused WrongLength) ws
+      unpack-unfit ne = nothing _ WrongLength ws (lent-unfit (length ws) F i w b (find-entry rule b o eo e n en i h) ew ne)
+
+      module _ (z : length ws ≡ w) where
+        pub unpack-room : offsetAt i b + 8 * length ws ≤ length b
+        unpack-room = subst (λ (x : ℕ). offsetAt i b + 8 * x ≤ length b) (sym (z ∙ ew)) (good-entry rule b o eo e n en i h .entry .body .inside)
+
+        pub unpack-fit : (t : Told) (out : List ℕ) → Bytes b → t ≡ told.Numbers (kindAt i b) (rowsAt i b) (columnsAt i b)
+            → out ≡ wordsAt (kindAt i b) (offsetAt i b) (length ws) b → Unpacks (lentEntry rule i b ws) ws t out
+        unfolding unpackedOf entryAt
+        unpack-fit t out f et eu =
+            let g : lentEntry rule i b ws ≡ found (entryAt i b) = lent-fit (length ws) F i w b (find-entry rule b o eo e n en i h) ew z in (
+              told-found (lentEntry rule i b ws) t i b et g,
+              eu ∙ ap (λ (k : ℕ). wordsAt (kindAt i b) (offsetAt i b) k b) (z ∙ ew)
+                  ∙ sym (flat-matrix (kindAt i b) (offsetAt i b) (rowsAt i b) (columnsAt i b) b f) ∙ sym (ap (λ (x : Lookup). unpackedOf x ws) g),
+            )

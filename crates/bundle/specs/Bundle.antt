@@ -5,15 +5,15 @@ use mathlib.Core.List.{List, [], _∷_}
 use Prim.Native.Nat.{ℕ, zero, suc, _+_, _*_, _<_, _≤_}
 use lib.Dec.{eqb, ltb}
 use lib.ListN.{length}
-use Rattle.words.specs.Words.{wordsOf, rowsOf}
+use Rattle.words.specs.Words.{wordsOf, rowsOf, narrow}
 use Rattle.wire.specs.Bytes.{num}
 use Rattle.wire.specs.Kinds.{wordsAt}
 use Rattle.refusals.specs.declared.Refusal.{Refusal}
 use Rattle.refusals.specs.declared.Refusal.the-variants.{DirtyPadding, BundleSize, EntryCount, ContentsCut, BadKind, BadShape, WrongOffset, BodyPast, BytesLeft}
 use Rattle.refusals.specs.declared.Outcome.{Outcome}
 use Rattle.refusals.specs.declared.Outcome.the-variants.{Done, Refused}
-use Rattle.refusals.specs.Outcome.{refuseIf, _andThen_}
-use Rattle.refusals.specs.Checks.{narrow}
+use Rattle.refusals.specs.Outcome.{refuseIf, _andThen_, first}
+use Rattle.refusals.specs.Checks.{sizeChecks, Sized}
 
 -- a matrix in a bundle, its rows as numbers
 pub record Entry : Type 0 where
@@ -65,43 +65,53 @@ kindRule two kind = cond (eqb kind 2) two (refuseIf (not (eqb kind 1)) BadKind)
 abbrev pub bothKinds : ℕ → Outcome
 bothKinds = kindRule Done
 
+-- a refusal, told as this one
+abbrev pub refusedAs : Refusal → Outcome → Outcome
+refusedAs r Done = Done
+refusedAs r (Refused x) = Refused r
+
 -- too many rows; no columns, or too many (24)
 unfoldable pub badShape : ℕ → ℕ → Outcome
-badShape rows columns = refuseIf (ltb 512 rows) BadShape andThen refuseIf (eqb columns 0) BadShape andThen refuseIf (ltb 1024 columns) BadShape
+badShape rows columns = refusedAs BadShape (sizeChecks rows columns)
 
 -- a body that should begin at byte p: where the contents say it is (25), inside the bundle (26), its padding zero (5)
-unfoldable pub bodyChecks : ℕ → ℕ → ℕ → ℕ → ℕ → List ℕ → Outcome
-bodyChecks kind rows columns offset p b =
-    refuseIf (not (eqb offset p)) WrongOffset andThen refuseIf (ltb (length b) (p + 8 * bodyWords rows columns)) BodyPast
-    andThen refuseIf (not (narrow columns (matrixAt kind p rows columns b))) DirtyPadding
+unfoldable pub bodyOrder : ℕ → ℕ → ℕ → ℕ → ℕ → List ℕ → List Outcome
+bodyOrder kind rows columns offset p b =
+    refuseIf (not (eqb offset p)) WrongOffset
+    ∷ refuseIf (ltb (length b) (p + 8 * bodyWords rows columns)) BodyPast
+    ∷ refuseIf (not (narrow columns (matrixAt kind p rows columns b))) DirtyPadding
+    ∷ []
 
 -- entry i, whose body should begin at byte p: its kind, its shape, then the body
-unfoldable pub entryChecks : (ℕ → Outcome) → ℕ → ℕ → List ℕ → Outcome
-entryChecks rule i p b =
-    rule (kindAt i b) andThen badShape (rowsAt i b) (columnsAt i b) andThen bodyChecks (kindAt i b) (rowsAt i b) (columnsAt i b) (offsetAt i b) p b
+unfoldable pub entryOrder : (ℕ → Outcome) → ℕ → ℕ → List ℕ → List Outcome
+entryOrder rule i p b =
+    rule (kindAt i b)
+    ∷ badShape (rowsAt i b) (columnsAt i b)
+    ∷ first (bodyOrder (kindAt i b) (rowsAt i b) (columnsAt i b) (offsetAt i b) p b)
+    ∷ []
 
 -- n entries from entry i on, one after the other, their bodies from byte p on; then nothing may be left (27)
 unfoldable pub entriesChecks : (ℕ → Outcome) → ℕ → ℕ → ℕ → List ℕ → Outcome
 entriesChecks rule zero i p b = refuseIf (not (eqb p (length b))) BytesLeft
-entriesChecks rule (suc n) i p b = entryChecks rule i p b andThen entriesChecks rule n (i + 1) (p + 8 * wordsIn i b) b
+entriesChecks rule (suc n) i p b = first (entryOrder rule i p b) andThen entriesChecks rule n (i + 1) (p + 8 * wordsIn i b) b
 
 -- ---- the whole
 
 -- the bundle's length (20), its count (21), room for the contents (22); then entry by entry
-unfoldable pub bundleChecks : (ℕ → Outcome) → List ℕ → Outcome
-bundleChecks rule b =
-    refuseIf (ltb (length b) 2) BundleSize andThen refuseIf (ltb 65535 (length b)) BundleSize
-    andThen refuseIf (eqb (countOf b) 0) EntryCount andThen refuseIf (ltb 64 (countOf b)) EntryCount
-    andThen refuseIf (ltb (length b) (headBytes (countOf b))) ContentsCut
-    andThen entriesChecks rule (countOf b) 0 (headBytes (countOf b)) b
+unfoldable pub bundleOrder : (ℕ → Outcome) → List ℕ → List Outcome
+bundleOrder rule b =
+    refuseIf (ltb (length b) 2) BundleSize
+    ∷ refuseIf (ltb 65535 (length b)) BundleSize
+    ∷ refuseIf (eqb (countOf b) 0) EntryCount
+    ∷ refuseIf (ltb 64 (countOf b)) EntryCount
+    ∷ refuseIf (ltb (length b) (headBytes (countOf b))) ContentsCut
+    ∷ entriesChecks rule (countOf b) 0 (headBytes (countOf b)) b
+    ∷ []
+
+abbrev pub bundleChecks : (ℕ → Outcome) → List ℕ → Outcome
+bundleChecks rule b = first (bundleOrder rule b)
 
 -- ---- what passing means
-
--- a shape that passes
-pub record Shaped (rows columns : ℕ) : Type 0 where
-  pub few : rows ≤ 512
-  pub some : 0 < columns
-  pub wide : columns ≤ 1024
 
 -- the body stands where it should, inside the bundle, with no one past its last column
 pub record Stands (kind rows columns offset p : ℕ) (b : List ℕ) : Type 0 where
@@ -109,10 +119,10 @@ pub record Stands (kind rows columns offset p : ℕ) (b : List ℕ) : Type 0 whe
   pub inside : p + 8 * bodyWords rows columns ≤ length b
   pub clean : narrow columns (matrixAt kind p rows columns b) ≡ true
 
--- entry i passes: its kind is taken, it has a shape, and its body stands at byte p
+-- entry i passes: its kind is taken, it has the sizes of a matrix, and its body stands at byte p
 pub record Placed (rule : ℕ → Outcome) (i p : ℕ) (b : List ℕ) : Type 0 where
   pub taken : rule (kindAt i b) ≡ Done
-  pub shape : Shaped (rowsAt i b) (columnsAt i b)
+  pub shape : Sized 512 (rowsAt i b) (columnsAt i b)
   pub body : Stands (kindAt i b) (rowsAt i b) (columnsAt i b) (offsetAt i b) p b
 
 -- bytes pass as a bundle

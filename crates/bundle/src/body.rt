@@ -4,7 +4,8 @@ ghost use mathlib.Core.Bool.{not};
 ghost use Prim.Native.Nat.{_+_, _*_, _/_, _^_, _≤_, _<_};
 ghost use lib.Dec.{eqb};
 ghost use lib.ListN.{length};
-ghost use Rattle.refusals.specs.Checks.{narrow};
+ghost use Rattle.words.specs.Words.{narrow};
+ghost use Rattle.refusals.specs.Checks.{Sized};
 ghost use Rattle.wire.specs.Bytes.{num};
 ghost use Rattle.wire.specs.Kinds.{order, wordsAt};
 ghost use Rattle.bundle.specs.Bundle.{bodyWords, matrixAt};
@@ -39,10 +40,10 @@ pub(crate) fn size(b: &[u8], at: usize, k: usize) -> usize
 
 // the words of a body
 pub(crate) fn words(rows: usize, columns: usize) -> usize
-    requires { ⌜ (rows ≤ 512) × (columns ≤ 1024) ⌝ }
+    requires { ⌜ Sized 512 rows columns ⌝ }
     ensures { λ r. ⌜ (r ≡ bodyWords rows columns) × (r ≤ 8192) ⌝ }
 {
-    rows * refusals::words(columns)
+    rows * words::per_row(columns)
 }
 
 // a word of a body, in the order of kind 1
@@ -75,14 +76,14 @@ fn is_past(b: &[u8], kind: usize, at: usize, s: usize) -> bool
 
 // whether a body has no one past its last column: only the last words of its rows are read
 pub(crate) fn is_clean(b: &[u8], kind: usize, at: usize, rows: usize, columns: usize) -> bool
-    requires { ⌜ (rows ≤ 512) × (0 < columns) × (columns ≤ 1024) × (at + 8 * bodyWords rows columns ≤ length (now b)) ⌝ }
+    requires { ⌜ Sized 512 rows columns × (at + 8 * bodyWords rows columns ≤ length (now b)) ⌝ }
     ensures { λ r. ⌜ r ≡ narrow columns (matrixAt kind at rows columns (now (b .entry))) ⌝ }
 {
-    let s = refusals::odd_bits(columns);
+    let s = words::odd_bits(columns);
     if s == 0 {
         return true;
     }
-    let w = refusals::words(columns);
+    let w = words::per_row(columns);
     let mut i = 0;
     while i < rows {
         if is_past(b, kind, at + 8 * (i * w + (w - 1)), s) {

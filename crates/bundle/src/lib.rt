@@ -14,7 +14,7 @@ pub enum Counted {
 }
 
 pub enum Told {
-    Entry { kind: u16, rows: u16, columns: u16 },
+    Numbers { kind: u16, rows: u16, columns: u16 },
     Refused(Refusal),
 }
 
@@ -36,7 +36,7 @@ impl Told {
         ensures { λ n. ⌜ n ≡ toldNumber self ⌝ }
     {
         match self {
-            Told::Entry {
+            Told::Numbers {
                 kind: _,
                 rows: _,
                 columns: _,

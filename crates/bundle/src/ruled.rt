@@ -2,10 +2,10 @@
 ghost use mathlib.Core.Path.{_≡_};
 ghost use Prim.Native.Nat.{_+_, _*_, _≤_, _<_};
 ghost use lib.ListN.{length};
-ghost use Rattle.refusals.specs.declared.Outcome.the-variants.{Done};
-ghost use Rattle.refusals.specs.Outcome.{_andThen_};
+ghost use Rattle.refusals.specs.Outcome.{_andThen_, first};
+ghost use Rattle.refusals.specs.Checks.{Sized};
 ghost use Rattle.wire.specs.Kinds.{wordsAt};
-ghost use Rattle.bundle.specs.Bundle.{headBytes, countOf, kindAt, rowsAt, columnsAt, offsetAt, wordsIn, kindRule, badShape, bodyChecks, entryChecks, entriesChecks, bundleChecks, meaning};
+ghost use Rattle.bundle.specs.Bundle.{headBytes, countOf, kindAt, rowsAt, columnsAt, offsetAt, wordsIn, kindRule, badShape, bodyOrder, entryOrder, entriesChecks, bundleChecks, meaning};
 ghost use Rattle.bundle.specs.declared.Told.the-variants as told;
 ghost use Rattle.bundle.specs.Answers.{countedIn, find, toldOf, lentEntry, unpackedOf};
 use crate::Counted;
@@ -30,16 +30,11 @@ fn kind_gets(two: Outcome, kind: usize) -> Outcome
 fn bad_shape(rows: usize, columns: usize) -> Outcome
     ensures { λ o. ⌜ o ≡ badShape rows columns ⌝ }
 {
-    if 512 < rows {
-        return Outcome::Refused(Refusal::BadShape);
+    let o = refusals::sizes(rows, columns);
+    match o {
+        Outcome::Refused(_) => Outcome::Refused(Refusal::BadShape),
+        Outcome::Done => Outcome::Done,
     }
-    if columns == 0 {
-        return Outcome::Refused(Refusal::BadShape);
-    }
-    if 1024 < columns {
-        return Outcome::Refused(Refusal::BadShape);
-    }
-    Outcome::Done
 }
 
 // an entry's kind and shape
@@ -58,8 +53,8 @@ fn check_body(
     offset: usize,
     at: usize,
 ) -> Outcome
-    requires { ⌜ (rows ≤ 512) × (0 < columns) × (columns ≤ 1024) × (at ≤ length (now b)) × (length (now b) ≤ 65535) ⌝ }
-    ensures { λ o. ⌜ o ≡ bodyChecks kind rows columns offset at (now (b .entry)) ⌝ }
+    requires { ⌜ Sized 512 rows columns × (at ≤ length (now b)) × (length (now b) ≤ 65535) ⌝ }
+    ensures { λ o. ⌜ o ≡ first (bodyOrder kind rows columns offset at (now (b .entry))) ⌝ }
 {
     if offset != at {
         return Outcome::Refused(Refusal::WrongOffset);
@@ -76,7 +71,7 @@ fn check_body(
 // entry i, whose body should begin at byte at
 fn check_entry(two: Outcome, b: &[u8], i: usize, at: usize) -> Outcome
     requires { ⌜ (headBytes (i + 1) ≤ length (now b)) × (at ≤ length (now b)) × (length (now b) ≤ 65535) ⌝ }
-    ensures { λ o. ⌜ o ≡ entryChecks (kindRule two) i at (now (b .entry)) ⌝ }
+    ensures { λ o. ⌜ o ≡ first (entryOrder (kindRule two) i at (now (b .entry))) ⌝ }
 {
     let head = 2 + 10 * i;
     let kind = body::size(b, head, 2);
@@ -84,15 +79,15 @@ fn check_entry(two: Outcome, b: &[u8], i: usize, at: usize) -> Outcome
     let columns = body::size(b, head + 4, 2);
     let offset = body::size(b, head + 6, 4);
     let o = shape(two, kind, rows, columns);
-    if o.number() != 0 {
-        return o;
+    match o {
+        Outcome::Refused(r) => Outcome::Refused(r),
+        Outcome::Done => check_body(b, kind, rows, columns, offset, at),
     }
-    check_body(b, kind, rows, columns, offset, at)
 }
 
 // the words of entry i, whose shape is right
 fn words_in(b: &[u8], i: usize) -> usize
-    requires { ⌜ (headBytes (i + 1) ≤ length (now b)) × (length (now b) ≤ 65535) × (badShape (rowsAt i (now b)) (columnsAt i (now b)) ≡ Done) ⌝ }
+    requires { ⌜ (headBytes (i + 1) ≤ length (now b)) × (length (now b) ≤ 65535) × Sized 512 (rowsAt i (now b)) (columnsAt i (now b)) ⌝ }
     ensures { λ r. ⌜ (r ≡ wordsIn i (now (b .entry))) × (r ≤ 8192) ⌝ }
 {
     let head = 2 + 10 * i;
@@ -110,8 +105,8 @@ fn check_entries(two: Outcome, b: &[u8], n: usize) -> Outcome
     let mut i = 0;
     while i < n {
         let o = check_entry(two, b, i, at);
-        if o.number() != 0 {
-            return o;
+        if let Outcome::Refused(r) = o {
+            return Outcome::Refused(r);
         }
         at += 8 * words_in(b, i);
         i += 1;
@@ -166,13 +161,13 @@ pub fn read(two: Outcome, bytes: &[u8]) -> Counted
 // the three numbers of entry i
 fn tell(b: &[u8], i: usize) -> Told
     requires { ⌜ (headBytes (i + 1) ≤ length (now b)) × (length (now b) ≤ 65535) ⌝ }
-    ensures { λ r. ⌜ r ≡ told.Entry (kindAt i (now (b .entry))) (rowsAt i (now (b .entry))) (columnsAt i (now (b .entry))) ⌝ }
+    ensures { λ r. ⌜ r ≡ told.Numbers (kindAt i (now (b .entry))) (rowsAt i (now (b .entry))) (columnsAt i (now (b .entry))) ⌝ }
 {
     let head = 2 + 10 * i;
     let kind = body::size(b, head, 2) as u16;
     let rows = body::size(b, head + 2, 2) as u16;
     let columns = body::size(b, head + 4, 2) as u16;
-    Told::Entry {
+    Told::Numbers {
         kind: kind,
         rows: rows,
         columns: columns,

@@ -11,22 +11,22 @@ use Rattle.bundle.specs.declared.Told.{Told}
 use Rattle.bundle.specs.declared.Told.the-variants as told
 use Rattle.pack.specs.declared.Written.{Written}
 use Rattle.pack.specs.declared.Written.the-variants as written
-use Rattle.chhayublo.specs.declared.Names.{Names}
-use Rattle.chhayublo.specs.declared.Count.{Count}
-use Rattle.chhayublo.specs.declared.Entry.{Entry}
-use Rattle.chhayublo.specs.declared.Length.{Length}
+use Rattle.chhayublo.specs.declared.SeenNames.{SeenNames}
+use Rattle.chhayublo.specs.declared.SeenCount.{SeenCount}
+use Rattle.chhayublo.specs.declared.SeenEntry.{SeenEntry}
+use Rattle.chhayublo.specs.declared.SeenLength.{SeenLength}
 use Rattle.chhayublo.specs.Calls.{seenVerdict, seenCount, seenEntry, seenLength}
 
-abbrev noNames : ℕ → Names
+abbrev noNames : ℕ → SeenNames
 noNames n = record { refusal = n; named = 0 }
 
-abbrev noCount : ℕ → Count
+abbrev noCount : ℕ → SeenCount
 noCount n = record { refusal = n; entries = 0 }
 
-abbrev noEntry : ℕ → Entry
+abbrev noEntry : ℕ → SeenEntry
 noEntry n = record { refusal = n; kind = 0; rows = 0; columns = 0 }
 
-abbrev noLength : ℕ → Length
+abbrev noLength : ℕ → SeenLength
 noLength n = record { refusal = n; bytes = 0 }
 
 module _ {n : ℕ} {r : Refusal} (e : n ≡ numberOf r) where

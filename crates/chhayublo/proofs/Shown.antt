@@ -14,14 +14,14 @@ use Rattle.refusals.specs.declared.Outcome.{Outcome}
 use Rattle.refusals.specs.declared.Outcome.the-variants.{Done, Refused}
 use Rattle.refusals.specs.Checks.{viewChecks}
 use Rattle.refusals.proofs.Passed.{view-passed}
-use Rattle.matrix.specs.Calls.{shown, shownFrom, rowView}
-use Rattle.chhayublo.specs.declared.Row.{Row}
+use Rattle.matrix.specs.Calls.{viewed, viewedFrom, rowView}
+use Rattle.chhayublo.specs.declared.SeenRow.{SeenRow}
 
 -- r is the part that is shown, and the words there are its words
-abbrev Placed : ℕ → List ℕ → Outcome → ℕ → Row → Type 0
-Placed i m o w r =
-    (r ≡ record { start = shownFrom o i w; words = length (shown o i w m) })
-    × (part (r .start) (r .words) m ≡ shown o i w m)
+abbrev Sees : ℕ → List ℕ → Outcome → ℕ → SeenRow → Type 0
+Sees i m o w r =
+    (r ≡ record { start = viewedFrom o i w; words = length (viewed o i w m) })
+    × (part (r .start) (r .words) m ≡ viewed o i w m)
 
 module _ (rows columns i : ℕ) (m x : List ℕ) (e : x ≡ rowView rows columns i m) where
   ends : viewChecks rows columns (length m) i ≡ Done → i * wordsOf columns + wordsOf columns ≤ length m
@@ -31,36 +31,36 @@ module _ (rows columns i : ℕ) (m x : List ℕ) (e : x ≡ rowView rows columns
 
   some : viewChecks rows columns (length m) i ≡ Done → 0 < wordsOf columns
   some f =
-      let h = view-passed rows columns (length m) i f .some in
+      let h = view-passed rows columns (length m) i f .sized .some in
       omega (arith, h)
 
   shows : viewChecks rows columns (length m) i ≡ Done → x ≡ part (i * wordsOf columns) (wordsOf columns) m
-  shows f = e ∙ ap (λ (o : Outcome). shown o i (wordsOf columns) m) f
+  shows f = e ∙ ap (λ (o : Outcome). viewed o i (wordsOf columns) m) f
 
-  sized : viewChecks rows columns (length m) i ≡ Done → length x ≡ wordsOf columns
-  sized f = ap length (shows f) ∙ length-part (i * wordsOf columns) (wordsOf columns) m (ends f)
+  length-shown : viewChecks rows columns (length m) i ≡ Done → length x ≡ wordsOf columns
+  length-shown f = ap length (shows f) ∙ length-part (i * wordsOf columns) (wordsOf columns) m (ends f)
 
   none : {r : Refusal} → viewChecks rows columns (length m) i ≡ Refused r → length x ≡ 0
-  none f = ap length (e ∙ ap (λ (o : Outcome). shown o i (wordsOf columns) m) f)
+  none f = ap length (e ∙ ap (λ (o : Outcome). viewed o i (wordsOf columns) m) f)
 
-  pub view-none : length x ≡ 0 → Placed i m (viewChecks rows columns (length m) i) (wordsOf columns) (record { start = 0; words = 0 })
+  pub view-none : length x ≡ 0 → Sees i m (viewChecks rows columns (length m) i) (wordsOf columns) (record { start = 0; words = 0 })
   view-none z = go (viewChecks rows columns (length m) i) refl
     where
-      go : (o : Outcome) → viewChecks rows columns (length m) i ≡ o → Placed i m o (wordsOf columns) (record { start = 0; words = 0 })
+      go : (o : Outcome) → viewChecks rows columns (length m) i ≡ o → Sees i m o (wordsOf columns) (record { start = 0; words = 0 })
       go (Refused r) f = (refl, refl)
-      go Done f = absurd (omega (arith, some f, sized f))
+      go Done f = absurd (omega (arith, some f, length-shown f))
 
-  pub view-some : (length x ≡ 0 → ⊥) → Placed i m (viewChecks rows columns (length m) i) (wordsOf columns) (record { start = i * length x; words = length x })
+  pub view-some : (length x ≡ 0 → ⊥) → Sees i m (viewChecks rows columns (length m) i) (wordsOf columns) (record { start = i * length x; words = length x })
   view-some z = go (viewChecks rows columns (length m) i) refl
     where
-      seen : ℕ → ℕ → Row
+      seen : ℕ → ℕ → SeenRow
       seen a w = record { start = a; words = w }
 
-      go : (o : Outcome) → viewChecks rows columns (length m) i ≡ o → Placed i m o (wordsOf columns) (seen (i * length x) (length x))
+      go : (o : Outcome) → viewChecks rows columns (length m) i ≡ o → Sees i m o (wordsOf columns) (seen (i * length x) (length x))
       go (Refused r) f = absurd (z (none f))
       go Done f = (
-        ap₂ seen (ap (λ (w : ℕ). i * w) (sized f)) (ap length (shows f)),
-        ap (λ (w : ℕ). part (i * w) w m) (sized f),
+        ap₂ seen (ap (λ (w : ℕ). i * w) (length-shown f)) (ap length (shows f)),
+        ap (λ (w : ℕ). part (i * w) w m) (length-shown f),
       )
 
   -- the row's first word lies in the buffer, or is word 0
@@ -72,5 +72,5 @@ module _ (rows columns i : ℕ) (m x : List ℕ) (e : x ≡ rowView rows columns
           let z : i * length x ≡ 0 = ap (λ (w : ℕ). i * w) (none f) ∙ mul-zero i in
           omega (arith, z)
       go Done f =
-          let l : i * length x ≡ i * wordsOf columns = ap (λ (w : ℕ). i * w) (sized f) in
+          let l : i * length x ≡ i * wordsOf columns = ap (λ (w : ℕ). i * w) (length-shown f) in
           omega (arith, ends f, l)

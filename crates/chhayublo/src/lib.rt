@@ -21,14 +21,14 @@ use packets::Verdict;
 
 // where a row stands in the caller's words: its first word, and how many words it has; 0 and 0 where the view is refused
 #[repr(C)]
-pub struct Row {
+pub struct SeenRow {
     pub start: usize,
     pub words: usize,
 }
 
 // what reduction and solving answer; refusal is its number, or 0
 #[repr(C)]
-pub struct Answer {
+pub struct SeenAnswer {
     pub refusal: u64,
     pub rank: usize,
     pub known: usize,
@@ -38,21 +38,21 @@ pub struct Answer {
 
 // what the contradiction call answers: named is 1 where packets have been named, else 0
 #[repr(C)]
-pub struct Names {
+pub struct SeenNames {
     pub refusal: u64,
     pub named: u64,
 }
 
 // how many entries a bundle has
 #[repr(C)]
-pub struct Count {
+pub struct SeenCount {
     pub refusal: u64,
     pub entries: usize,
 }
 
 // an entry's three numbers
 #[repr(C)]
-pub struct Entry {
+pub struct SeenEntry {
     pub refusal: u64,
     pub kind: u64,
     pub rows: u64,
@@ -61,7 +61,7 @@ pub struct Entry {
 
 // how many bytes a written bundle has
 #[repr(C)]
-pub struct Length {
+pub struct SeenLength {
     pub refusal: u64,
     pub bytes: usize,
 }
@@ -75,27 +75,27 @@ pub extern "C" fn chhayublo_version() -> u64
 }
 
 #[no_mangle]
-pub extern "C" fn chhayublo_row_view(m: &[u64], rows: usize, columns: usize, i: usize) -> Row
+pub extern "C" fn chhayublo_row_view(m: &[u64], rows: usize, columns: usize, i: usize) -> SeenRow
     ensures { λ r. ⌜ (r ≡ seenRow rows columns i (now (m .entry))) × (part (r .start) (r .words) (now (m .entry)) ≡ rowView rows columns i (now (m .entry))) ⌝ }
 {
     let shown = matrix::row_view(m, rows, columns, i);
     let words = shown.len();
     if words == 0 {
-        return Row { start: 0, words: 0 };
+        return SeenRow { start: 0, words: 0 };
     }
-    Row {
+    SeenRow {
         start: i * words,
         words: words,
     }
 }
 
 // an answer as C sees it
-fn seen(a: matrix::Answer) -> Answer
+fn seen(a: matrix::Answer) -> SeenAnswer
     ensures { λ r. ⌜ r ≡ seenAnswer a ⌝ }
 {
     let outcome = a.outcome;
     let pivots = a.pivots;
-    Answer {
+    SeenAnswer {
         refusal: outcome.number() as u64,
         rank: a.rank,
         known: a.known,
@@ -111,7 +111,7 @@ pub extern "C" fn chhayublo_reduce(
     columns: usize,
     k: usize,
     room: &mut [u64],
-) -> Answer
+) -> SeenAnswer
     ensures { λ r. ⌜ ((a : matrix.Answer) × reduction rows columns k (now (m .entry)) (now (room .entry)) a (now (m .exit)) (now (room .exit)) × (r ≡ seenAnswer a)) ⌝ }
 {
     seen(matrix::reduce(m, rows, columns, k, room))
@@ -142,7 +142,7 @@ pub extern "C" fn chhayublo_solve(
     image: &mut [u64],
     marks: &mut [u8],
     room: &mut [u64],
-) -> Answer
+) -> SeenAnswer
     ensures { λ r. ⌜ ((a : matrix.Answer) × solving rows columns n k (now (m .entry)) (now (image .entry)) (now (marks .entry)) (now (room .entry)) a (now (m .exit)) (now (image .exit)) (now (marks .exit)) (now (room .exit)) × (r ≡ seenAnswer a)) ⌝ }
 {
     seen(packets::solve(m, rows, columns, n, k, image, marks, room))
@@ -157,20 +157,20 @@ pub extern "C" fn chhayublo_contradiction(
     k: usize,
     named: &mut [u64],
     room: &mut [u64],
-) -> Names
+) -> SeenNames
     ensures { λ r. ⌜ ((v : Verdict) × naming rows columns n k (now (m .entry)) (now (named .entry)) (now (room .entry)) v (now (named .exit)) (now (room .exit)) × (r ≡ seenVerdict v)) ⌝ }
 {
     let v = packets::contradiction(m, rows, columns, n, k, named, room);
     match v {
-        Verdict::Named => Names {
+        Verdict::Named => SeenNames {
             refusal: 0,
             named: 1,
         },
-        Verdict::None => Names {
+        Verdict::None => SeenNames {
             refusal: 0,
             named: 0,
         },
-        Verdict::Refused(r) => Names {
+        Verdict::Refused(r) => SeenNames {
             refusal: refusals::number(r) as u64,
             named: 0,
         },
@@ -178,16 +178,16 @@ pub extern "C" fn chhayublo_contradiction(
 }
 
 #[no_mangle]
-pub extern "C" fn chhayublo_bundle_read(bytes: &[u8]) -> Count
+pub extern "C" fn chhayublo_bundle_read(bytes: &[u8]) -> SeenCount
     ensures { λ r. ⌜ r ≡ seenCount (countedIn (meaning bothKinds (now (bytes .entry)))) ⌝ }
 {
     let c = bundle::read(bytes);
     match c {
-        Counted::Entries(n) => Count {
+        Counted::Entries(n) => SeenCount {
             refusal: 0,
             entries: n,
         },
-        Counted::Refused(r) => Count {
+        Counted::Refused(r) => SeenCount {
             refusal: refusals::number(r) as u64,
             entries: 0,
         },
@@ -195,21 +195,21 @@ pub extern "C" fn chhayublo_bundle_read(bytes: &[u8]) -> Count
 }
 
 // what is told of an entry, as C sees it
-fn seen_entry(t: Told) -> Entry
+fn seen_entry(t: Told) -> SeenEntry
     ensures { λ r. ⌜ r ≡ seenEntry t ⌝ }
 {
     match t {
-        Told::Entry {
+        Told::Numbers {
             kind,
             rows,
             columns,
-        } => Entry {
+        } => SeenEntry {
             refusal: 0,
             kind: kind as u64,
             rows: rows as u64,
             columns: columns as u64,
         },
-        Told::Refused(refusal) => Entry {
+        Told::Refused(refusal) => SeenEntry {
             refusal: refusals::number(refusal) as u64,
             kind: 0,
             rows: 0,
@@ -219,14 +219,14 @@ fn seen_entry(t: Told) -> Entry
 }
 
 #[no_mangle]
-pub extern "C" fn chhayublo_bundle_entry(bytes: &[u8], i: usize) -> Entry
+pub extern "C" fn chhayublo_bundle_entry(bytes: &[u8], i: usize) -> SeenEntry
     ensures { λ r. ⌜ r ≡ seenEntry (toldOf (find i (meaning bothKinds (now (bytes .entry))))) ⌝ }
 {
     seen_entry(bundle::entry(bytes, i))
 }
 
 #[no_mangle]
-pub extern "C" fn chhayublo_bundle_unpack(bytes: &[u8], i: usize, words: &mut [u64]) -> Entry
+pub extern "C" fn chhayublo_bundle_unpack(bytes: &[u8], i: usize, words: &mut [u64]) -> SeenEntry
     ensures { λ r. ⌜ (r ≡ seenEntry (toldOf (lentEntry bothKinds i (now (bytes .entry)) (now (words .entry))))) × (now (words .exit) ≡ unpackedOf (lentEntry bothKinds i (now (bytes .entry)) (now (words .entry))) (now (words .entry))) ⌝ }
 {
     seen_entry(bundle::unpack(bytes, i, words))
@@ -239,16 +239,16 @@ pub extern "C" fn chhayublo_bundle_write(
     columns: &[u16],
     words: &[u64],
     out: &mut [u8],
-) -> Length
+) -> SeenLength
     ensures { λ r. ⌜ (r ≡ seenLength (written bothKinds (now (kinds .entry)) (now (rows .entry)) (now (columns .entry)) (now (words .entry)) (length (now (out .entry))))) × (now (out .exit) ≡ output bothKinds (now (kinds .entry)) (now (rows .entry)) (now (columns .entry)) (now (words .entry)) (now (out .entry))) ⌝ }
 {
     let w = pack::write(kinds, rows, columns, words, out);
     match w {
-        Written::Bytes(n) => Length {
+        Written::Bytes(n) => SeenLength {
             refusal: 0,
             bytes: n,
         },
-        Written::Refused(r) => Length {
+        Written::Refused(r) => SeenLength {
             refusal: refusals::number(r) as u64,
             bytes: 0,
         },

@@ -18,27 +18,24 @@ use Rattle.refusals.specs.Checks.{reductionChecks}
 use Rattle.refusals.proofs.Passed.{passes-reduction}
 use Rattle.bundle.specs.Bundle.{Entry, bodyWords}
 use Rattle.bundle.proofs.Bodies.{rows-again}
-use Rattle.desk.specs.Desk.{window, tableRows}
+use Rattle.desk.specs.Desk.{windowColumns, tableRows}
 use Rattle.desk.proofs.Sound.{Sound}
 
 module _ (e : Entry) (s : Sound e) where
-  pub passes : (words : List ℕ) (room : ℕ) → words ≡ flat (wordsOf (e .columns)) (e .matrix) → tableRows * wordsOf (e .columns) ≤ room → reductionChecks (e .rows) (e .columns) window words room ≡ Done
+  pub passes : (words : List ℕ) (room : ℕ) → words ≡ flat (wordsOf (e .columns)) (e .matrix) → tableRows * wordsOf (e .columns) ≤ room → reductionChecks (e .rows) (e .columns) windowColumns words room ≡ Done
   passes words room ew er =
-      let rows : rowsOf (wordsOf (e .columns)) (e .rows) words ≡ e .matrix = ap (rowsOf (wordsOf (e .columns)) (e .rows)) ew ∙ rows-again e (s .sized) (s .clean) in
-      passes-reduction (e .rows) (e .columns) window words room (record {
-        few = s .shape .few;
-        some = s .shape .some;
-        wide = s .shape .wide;
-        least = lit< tt;
-        most = lit≤ tt;
-        exact = ap length ew ∙ length-flat (wordsOf (e .columns)) (e .matrix) ∙ ap (λ (n : ℕ). n * wordsOf (e .columns)) (s .sized);
+      let rows : rowsOf (wordsOf (e .columns)) (e .rows) words ≡ e .matrix = ap (rowsOf (wordsOf (e .columns)) (e .rows)) ew ∙ rows-again e (s .size) (s .clean) in
+      passes-reduction (e .rows) (e .columns) windowColumns words room (record {
+        sized = s .shape;
+        window = record { least = lit< tt; most = lit≤ tt };
+        exact = ap length ew ∙ length-flat (wordsOf (e .columns)) (e .matrix) ∙ ap (λ (n : ℕ). n * wordsOf (e .columns)) (s .size);
         roomy = er;
         clean = λ i. subst (λ (M : List ℕ). row M i < 2 ^ (e .columns)) (sym rows) (s .clean i);
       })
 
   module _ (words words′ : List ℕ) (ew : words ≡ flat (wordsOf (e .columns)) (e .matrix)) (f : ReducedForm (rowsOf (wordsOf (e .columns)) (e .rows) words) (rowsOf (wordsOf (e .columns)) (e .rows) words′)) where
     pub form-rows : rowsOf (wordsOf (e .columns)) (e .rows) words′ ≡ rref (e .matrix)
-    form-rows = one-reduced-form (subst (λ (M : List ℕ). ReducedForm M (rowsOf (wordsOf (e .columns)) (e .rows) words′)) (ap (rowsOf (wordsOf (e .columns)) (e .rows)) ew ∙ rows-again e (s .sized) (s .clean)) f) (rref-form (e .matrix))
+    form-rows = one-reduced-form (subst (λ (M : List ℕ). ReducedForm M (rowsOf (wordsOf (e .columns)) (e .rows) words′)) (ap (rowsOf (wordsOf (e .columns)) (e .rows)) ew ∙ rows-again e (s .size) (s .clean)) f) (rref-form (e .matrix))
 
     pub form-words : length words′ ≡ bodyWords (e .rows) (e .columns) → Fit words′ → words′ ≡ flat (wordsOf (e .columns)) (rref (e .matrix))
     unfolding bodyWords

@@ -11,8 +11,9 @@ use lib.ListN.{length, drop}
 use borrow.Author.Tests.{le-leb, lt-leb}
 use Rattle.words.specs.Words.{wordsOf}
 use Rattle.refusals.specs.declared.Refusal.{Refusal}
-use Rattle.bundle.specs.Bundle.{Entry, bodyWords, Shaped}
-use Rattle.bundle.specs.Answers.{Found, found, missing, toldOf}
+use Rattle.refusals.specs.Checks.{Sized}
+use Rattle.bundle.specs.Bundle.{Entry, bodyWords}
+use Rattle.bundle.specs.Answers.{Lookup, found, missing, toldOf}
 use Rattle.bundle.specs.declared.Told.the-variants as told
 use Rattle.desk.specs.declared.EntryReduced.{EntryReduced}
 use Rattle.desk.specs.declared.EntryReduced.the-variants as reduced
@@ -20,21 +21,21 @@ use Rattle.desk.proofs.Sound.{Sound}
 use Rattle.desk.specs.Desk.{tableRows, roomFor, Shows, reducedWhole, reducedBy, reducedFound}
 
 -- what is told shows what is found
-pub told-shows : (F : Found) (kind rows columns : ℕ) → told.Entry kind rows columns ≡ toldOf F → Shows rows columns F
+pub told-shows : (F : Lookup) (kind rows columns : ℕ) → told.Numbers kind rows columns ≡ toldOf F → Shows rows columns F
 unfolding toldOf
 told-shows (found e) kind rows columns q = (cc, cc)
 told-shows (missing x) kind rows columns q = let z : _≡_ {A = ℕ} 0 1 = cc in absurd (omega arith)
 
-pub shows-shape : (F : Found) (rows columns : ℕ) → Shows rows columns F → ((e : Entry) → F ≡ found e → Sound e) → Shaped rows columns
-shows-shape (found e) rows columns s sound = subst (λ (c : ℕ). Shaped rows c) (s .1) (subst (λ (r : ℕ). Shaped r (e .columns)) (s .0) (sound e refl .shape))
+pub shows-shape : (F : Lookup) (rows columns : ℕ) → Shows rows columns F → ((e : Entry) → F ≡ found e → Sound e) → Sized 512 rows columns
+shows-shape (found e) rows columns s sound = subst (λ (c : ℕ). Sized 512 rows c) (s .1) (subst (λ (r : ℕ). Sized 512 r (e .columns)) (s .0) (sound e refl .shape))
 shows-shape (missing x) rows columns s sound = absurd s
 
 -- the words of a body are few
-pub few-words : (rows columns w : ℕ) → Shaped rows columns → w ≡ wordsOf columns → rows * w ≤ 8192
+pub few-words : (rows columns w : ℕ) → Sized 512 rows columns → w ≡ wordsOf columns → rows * w ≤ 8192
 few-words rows columns w s e = omega (arith, mul-le-mul-right w (s .few), s .wide, e)
 
 module _ (words room : List ℕ) where
-  pub not-found : (F : Found) (x : Refusal) → told.Refused x ≡ toldOf F → reducedFound F words room (reduced.Refused x) words room
+  pub not-found : (F : Lookup) (x : Refusal) → told.Refused x ≡ toldOf F → reducedFound F words room (reduced.Refused x) words room
   unfolding toldOf
   not-found (found e) x q = let z : _≡_ {A = ℕ} 0 1 = cc in absurd (omega arith)
   not-found (missing y) x q = (let z : x ≡ y = cc in ap reduced.Refused z, refl, refl)
@@ -48,7 +49,7 @@ module _ (words room : List ℕ) where
       and-false true q = q
       and-false false q = refl
 
-  pub unfit : (F : Found) (rows columns : ℕ) → Shows rows columns F → (length words < bodyWords rows columns) ⊎ (length room < tableRows * wordsOf columns)
+  pub unfit : (F : Lookup) (rows columns : ℕ) → Shows rows columns F → (length words < bodyWords rows columns) ⊎ (length room < tableRows * wordsOf columns)
       → reducedFound F words room reduced.Unfit words room
   unfit (found e) rows columns s h =
       subst (λ (t : Bool). reducedBy t e words room reduced.Unfit words room) (sym (no-room e (moved h))) (refl, refl, refl)
@@ -58,7 +59,7 @@ module _ (words room : List ℕ) where
       moved (inr l) = inr (subst (λ (n : ℕ). length room < tableRows * wordsOf n) (sym (s .1)) l)
   unfit (missing x) rows columns s h = absurd s
 
-  pub front : (F : Found) (rows columns n : ℕ) (r : EntryReduced) (part room′ : List ℕ) → Shows rows columns F → n ≡ bodyWords rows columns → n ≤ length words → tableRows * wordsOf columns ≤ length room
+  pub front : (F : Lookup) (rows columns n : ℕ) (r : EntryReduced) (part room′ : List ℕ) → Shows rows columns F → n ≡ bodyWords rows columns → n ≤ length words → tableRows * wordsOf columns ≤ length room
       → reducedWhole F room r part room′ → reducedFound F words room r (part ++ drop n words) room′
   unfolding roomFor
   front (found e) rows columns n r part room′ s en h k w =

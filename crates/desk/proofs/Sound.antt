@@ -11,22 +11,23 @@ use Rattle.words.proofs.Rows.{length-rows}
 use Rattle.wire.specs.Kinds.{wordsAt}
 use Rattle.refusals.specs.declared.Outcome.{Outcome}
 use Rattle.refusals.specs.declared.Outcome.the-variants.{Done, Refused}
-use Rattle.refusals.proofs.Padding.{narrow-row}
-use Rattle.bundle.specs.Bundle.{Entry, bodyWords, countOf, rowsAt, columnsAt, kindAt, offsetAt, matrixAt, bundleChecks, entryAt, meaning, Shaped}
+use Rattle.words.proofs.Padding.{narrow-row}
+use Rattle.refusals.specs.Checks.{Sized}
+use Rattle.bundle.specs.Bundle.{Entry, bodyWords, countOf, rowsAt, columnsAt, kindAt, offsetAt, matrixAt, bundleChecks, entryAt, meaning}
 use Rattle.bundle.specs.Answers.{found, missing, find}
 use Rattle.bundle.proofs.Passing.{Good}
 use Rattle.bundle.proofs.Meaning.{find-refused, find-entry, find-past, good-entry}
 
 pub record Sound (e : Entry) : Type 0 where
-  pub shape : Shaped (e .rows) (e .columns)
-  pub sized : length (e .matrix) ≡ e .rows
+  pub shape : Sized 512 (e .rows) (e .columns)
+  pub size : length (e .matrix) ≡ e .rows
   pub clean : (i : ℕ) → row (e .matrix) i < 2 ^ (e .columns)
 
 good-sound : (rule : ℕ → Outcome) (i : ℕ) (b : List ℕ) → Good rule i b → Sound (entryAt i b)
 unfolding entryAt matrixAt
 good-sound rule i b g = record {
   shape = g .entry .shape;
-  sized = length-rows (wordsOf (columnsAt i b)) (rowsAt i b) (wordsAt (kindAt i b) (offsetAt i b) (bodyWords (rowsAt i b) (columnsAt i b)) b);
+  size = length-rows (wordsOf (columnsAt i b)) (rowsAt i b) (wordsAt (kindAt i b) (offsetAt i b) (bodyWords (rowsAt i b) (columnsAt i b)) b);
   clean = narrow-row (columnsAt i b) (rowsOf (wordsOf (columnsAt i b)) (rowsAt i b) (wordsAt (kindAt i b) (offsetAt i b) (bodyWords (rowsAt i b) (columnsAt i b)) b)) (g .entry .body .clean);
 }
 

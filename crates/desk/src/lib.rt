@@ -15,7 +15,7 @@ const K: usize = 4;
 
 // what reducing an entry answers: its shape, and the rank and table additions of its reduced form; the refusal; or that words or room are too short
 pub enum EntryReduced {
-    Entry {
+    Figures {
         rows: usize,
         columns: usize,
         rank: usize,
@@ -50,7 +50,7 @@ fn reduce_fitting(
     let a = matrix::reduce(words, rows, columns, K, room);
     let rank = a.rank;
     let additions = a.additions;
-    EntryReduced::Entry {
+    EntryReduced::Figures {
         rows: rows,
         columns: columns,
         rank: rank,
@@ -65,14 +65,14 @@ pub fn reduce_entry(bytes: &[u8], i: usize, words: &mut [u64], room: &mut [u64])
     let t = bundle::entry(bytes, i);
     match t {
         Told::Refused(r) => EntryReduced::Refused(r),
-        Told::Entry {
+        Told::Numbers {
             kind,
             rows,
             columns,
         } => {
             let r = rows as usize;
             let c = columns as usize;
-            let w = refusals::words(c);
+            let w = words::per_row(c);
             let n = r * w;
             if words.len() < n {
                 return EntryReduced::Unfit;

@@ -12,7 +12,7 @@ use lib.Seq.{getD-set-same, getD-set-other}
 use Rattle.gf2.specs.Rows.{bit, row}
 use Rattle.words.specs.Words.{windowBits}
 use Rattle.method.proofs.WindowBits.{bit-window, window-lt}
-use Rattle.engine.specs.Stage.{Union, Marks, Gathered, Numbers}
+use Rattle.engine.specs.Stage.{Union, WindowPivots, Gathered, Numbers}
 use Rattle.engine.proofs.ByteLaws.{none-of}
 
 -- a window's bits fit a byte
@@ -49,7 +49,7 @@ reading-more f from to i h₀ h u b hi ht e R = record {
 -- ---- numbers
 
 -- h has the window's bits of all rows but the window's pivot rows; p has 0 for these
-module _ (n c k base r : ℕ) (M h p cols : List ℕ) (m : Marks c k base r cols)
+module _ (n c k base r : ℕ) (M h p cols : List ℕ) (m : WindowPivots c k base r cols)
     (low : (i : ℕ) → i < base → getD h i 0 ≡ windowBits c k (row M i)) (high : (i : ℕ) → base + r ≤ i → i < n → getD h i 0 ≡ windowBits c k (row M i))
     (zeros : (i : ℕ) → base ≤ i → i < base + r → getD p i 0 ≡ 0) where
   has : (i : ℕ) → i < n → (i < base) ⊎ (base + r ≤ i) → getD h i 0 ≡ windowBits c k (row M i)

@@ -5,53 +5,58 @@ use mathlib.Core.List.{List}
 use Prim.Native.Nat.{ℕ}
 use native.Mathlib.Omega.{arith}
 use lib.ListN.{length}
-use Rattle.gf2.specs.Reduced.{rank}
+use Rattle.gf2.specs.Reduced.{rank, pivotRecord}
 use Rattle.gf2.specs.Additions.{additions}
 use Rattle.gf2.proofs.Reduced.{one-reduced-form}
 use Rattle.words.specs.Words.{Slice, wordsOf}
 use Rattle.words.proofs.Slices.{same-words}
-use Rattle.engine.specs.Core.{pivotRecord, Reduction, twoSlices, oneRoom}
+use Rattle.refusals.specs.Outcome.{doneIf}
+use Rattle.engine.specs.declared.Eliminated.{Eliminated}
+use Rattle.engine.specs.Core.{ReducedTo, twoSlices, oneRoom}
+
+-- both are done, or neither
+agree : {A F F₂ U U₂ X : Type 0} (b b₂ : Bool) → (b ≡ b₂ → A → F → F₂ → X) → (U → U₂ → X) → doneIf b A F U → doneIf b₂ A F₂ U₂ → X
+agree true true both neither f g = both refl (f .0) (f .1) (g .1)
+agree false false both neither f g = neither (f .1) (g .1)
+agree true false both neither f g = absurd (g .0 (f .0))
+agree false true both neither f g = absurd (f .0 (g .0))
+
+same-answer : {b b₂ : Bool} {x x₂ y y₂ : ℕ} → b ≡ b₂ → x ≡ x₂ → y ≡ y₂
+    → _≡_ {A = Eliminated} (record { done = b; rank = x; additions = y }) (record { done = b₂; rank = x₂; additions = y₂ })
+same-answer d e f = cc
 
 -- one reduction
-module _ {k columns ranked added ranked₂ added₂ : ℕ} {L N N₂ list list₂ : List ℕ} (f : Reduction k columns L N ranked added list) (g : Reduction k columns L N₂ ranked₂ added₂ list₂)
-    (l : length list ≡ length list₂) where
+module _ {counts : List ℕ → ℕ} {L N N₂ list list₂ : List ℕ} {r r₂ : Eliminated} (f : ReducedTo counts L N r list) (g : ReducedTo counts L N₂ r₂ list₂) where
   pub one-matrix : N ≡ N₂
   one-matrix = one-reduced-form (f .form) (g .form)
 
-  pub one-count : (ranked ≡ ranked₂) × (added ≡ added₂) × (list ≡ list₂)
-  one-count = (
-    f .rank-is ∙ ap rank one-matrix ∙ sym (g .rank-is),
-    f .additions-are ∙ ap (additions k columns) one-matrix ∙ sym (g .additions-are),
-    f .pivots-are ∙ ap₂ (λ (X : List ℕ) (x : ℕ). pivotRecord x X) one-matrix l ∙ sym (g .pivots-are),
-  )
+  pub one-answer : r .done ≡ r₂ .done → r ≡ r₂
+  one-answer d = same-answer d (f .rank-is ∙ ap rank one-matrix ∙ sym (g .rank-is)) (f .additions-are ∙ ap counts one-matrix ∙ sym (g .additions-are))
+
+  pub one-list : length list ≡ length list₂ → list ≡ list₂
+  one-list l = f .pivots-are ∙ ap₂ (λ (X : List ℕ) (x : ℕ). pivotRecord x X) one-matrix l ∙ sym (g .pivots-are)
 
 module _ (rows columns k : ℕ) (m t list : List ℕ) where
-  pub one-two-slices : (b b₂ : Bool) (m′ t′ list′ m₂ t₂ list₂ : List ℕ) (ranked added ranked₂ added₂ : ℕ) → Slice m m′ → Slice m m₂ → length list′ ≡ length list → length list₂ ≡ length list
-      → twoSlices b rows columns k m t list m′ t′ list′ ranked added → twoSlices b₂ rows columns k m t list m₂ t₂ list₂ ranked₂ added₂
-      → (b ≡ b₂) × (m′ ≡ m₂) × (t′ ≡ t₂) × (list′ ≡ list₂) × (ranked ≡ ranked₂) × (added ≡ added₂)
-  one-two-slices true true m′ t′ list′ m₂ t₂ list₂ ranked added ranked₂ added₂ s s₂ l l₂ t o =
-      let c = one-count (t .1) (o .1) (l ∙ sym l₂) in
-      let held = t .0 .held in (
-        refl,
-        same-words (wordsOf columns) rows m′ m₂ (s .fit) (s₂ .fit) (omega (arith, held, s .size)) (omega (arith, held, s₂ .size)) (one-matrix (t .1) (o .1) (l ∙ sym l₂)) (t .2 ∙ sym (o .2)),
-        t .3 ∙ sym (o .3),
-        c .2,
-        c .0,
-        c .1,
-      )
-  one-two-slices false false m′ t′ list′ m₂ t₂ list₂ ranked added ranked₂ added₂ s s₂ l l₂ t o =
-      (refl, t .1 ∙ sym (o .1), t .2 ∙ sym (o .2), t .3 ∙ sym (o .3), t .4 ∙ sym (o .4), t .5 ∙ sym (o .5))
-  one-two-slices true false m′ t′ list′ m₂ t₂ list₂ ranked added ranked₂ added₂ s s₂ l l₂ t o = absurd (o .0 (t .0))
-  one-two-slices false true m′ t′ list′ m₂ t₂ list₂ ranked added ranked₂ added₂ s s₂ l l₂ t o = absurd (t .0 (o .0))
+  pub one-two-slices : (r r₂ : Eliminated) (m′ t′ list′ m₂ t₂ list₂ : List ℕ) → Slice m m′ → Slice m m₂ → length list′ ≡ length list → length list₂ ≡ length list
+      → twoSlices r rows columns k m t list m′ t′ list′ → twoSlices r₂ rows columns k m t list m₂ t₂ list₂ → (r ≡ r₂) × (m′ ≡ m₂) × (t′ ≡ t₂) × (list′ ≡ list₂)
+  one-two-slices r r₂ m′ t′ list′ m₂ t₂ list₂ s s₂ l l₂ =
+      agree (r .done) (r₂ .done)
+      (λ e fits f g. let held = fits .shape .held in (
+        one-answer (f .0) (g .0) e,
+        same-words (wordsOf columns) rows m′ m₂ (s .fit) (s₂ .fit) (omega (arith, held, s .size)) (omega (arith, held, s₂ .size)) (one-matrix (f .0) (g .0)) (f .1 ∙ sym (g .1)),
+        f .2 ∙ sym (g .2),
+        one-list (f .0) (g .0) (l ∙ sym l₂),
+      ))
+      (λ f g. (f .0 ∙ sym (g .0), f .1 ∙ sym (g .1), f .2 ∙ sym (g .2), f .3 ∙ sym (g .3)))
 
 module _ (rows columns k : ℕ) (m list : List ℕ) where
-  pub one-one-room : (b b₂ : Bool) (m′ list′ m₂ list₂ : List ℕ) (ranked added ranked₂ added₂ : ℕ) → Slice m m′ → Slice m m₂ → length list′ ≡ length list → length list₂ ≡ length list
-      → oneRoom b rows columns k m list m′ list′ ranked added → oneRoom b₂ rows columns k m list m₂ list₂ ranked₂ added₂
-      → (b ≡ b₂) × (m′ ≡ m₂) × (list′ ≡ list₂) × (ranked ≡ ranked₂) × (added ≡ added₂)
-  one-one-room true true m′ list′ m₂ list₂ ranked added ranked₂ added₂ s s₂ l l₂ t t₂ =
-      let c = one-count (t .1) (t₂ .1) (l ∙ sym l₂) in
-      let held = t .0 .held in
-      (refl, same-words (wordsOf columns) rows m′ m₂ (s .fit) (s₂ .fit) (omega (arith, held, s .size)) (omega (arith, held, s₂ .size)) (one-matrix (t .1) (t₂ .1) (l ∙ sym l₂)) (t .2 ∙ sym (t₂ .2)), c .2, c .0, c .1)
-  one-one-room false false m′ list′ m₂ list₂ ranked added ranked₂ added₂ s s₂ l l₂ t t₂ = (refl, t .1 ∙ sym (t₂ .1), t .2 ∙ sym (t₂ .2), t .3 ∙ sym (t₂ .3), t .4 ∙ sym (t₂ .4))
-  one-one-room true false m′ list′ m₂ list₂ ranked added ranked₂ added₂ s s₂ l l₂ t n = absurd (n .0 (t .0))
-  one-one-room false true m′ list′ m₂ list₂ ranked added ranked₂ added₂ s s₂ l l₂ n t = absurd (n .0 (t .0))
+  pub one-one-room : (r r₂ : Eliminated) (m′ list′ m₂ list₂ : List ℕ) → Slice m m′ → Slice m m₂ → length list′ ≡ length list → length list₂ ≡ length list
+      → oneRoom r rows columns k m list m′ list′ → oneRoom r₂ rows columns k m list m₂ list₂ → (r ≡ r₂) × (m′ ≡ m₂) × (list′ ≡ list₂)
+  one-one-room r r₂ m′ list′ m₂ list₂ s s₂ l l₂ =
+      agree (r .done) (r₂ .done)
+      (λ e fits f g. let held = fits .shape .held in (
+        one-answer (f .0) (g .0) e,
+        same-words (wordsOf columns) rows m′ m₂ (s .fit) (s₂ .fit) (omega (arith, held, s .size)) (omega (arith, held, s₂ .size)) (one-matrix (f .0) (g .0)) (f .1 ∙ sym (g .1)),
+        one-list (f .0) (g .0) (l ∙ sym l₂),
+      ))
+      (λ f g. (f .0 ∙ sym (g .0), f .1 ∙ sym (g .1), f .2 ∙ sym (g .2)))

@@ -12,7 +12,7 @@ use lib.Seq.{getD-set-same, getD-set-other, set-set, set-getD}
 use Rattle.gf2.specs.Rows.{bit, _⊕_, row, part, swapped, pick, RowSpace, SameRowSpace}
 use Rattle.gf2.specs.Reduced.{Pivot}
 use Rattle.words.specs.Words.{windowBits}
-use Rattle.method.specs.Stage.{Pending}
+use Rattle.method.specs.Stage.{Stage, Pending}
 use Rattle.gf2.proofs.Bits.{bit-cases, bit-of-zero, bit-xor, xor-assoc}
 use Rattle.gf2.proofs.Space.{pick-each, space-zero, space-xor}
 use Rattle.gf2.proofs.Pivot.{pivot-unique}
@@ -20,7 +20,7 @@ use Rattle.method.proofs.Upto.{upto-pass}
 use Rattle.method.proofs.Pending.{part-has, pending-start, settled}
 use Rattle.method.proofs.Taking.{clearBy, swap-to, swap-from, swap-other, swap-length, clear-other, pending-take, take-same, take-pivot, take-here, take-length}
 use Rattle.method.proofs.WindowBits.{bit-window, window-clear}
-use Rattle.engine.specs.Stage.{Own, Settled, Lifted, Search, Stage, Swept}
+use Rattle.engine.specs.Stage.{Own, Settled, Lifted, Search, Swept}
 
 -- ---- settle
 

@@ -5,12 +5,11 @@ use mathlib.Core.List.{List}
 use Prim.Native.Nat.{ℕ, _+_, _-_, _*_, _/_, _%_, _^_, _≤_, _<_}
 use lib.ListN.{length, getD, set, drop}
 use lib.Seq.{paste}
-use Rattle.gf2.specs.Rows.{bit, _⊕_, row, part, pick, combine, RowSpace, SameRowSpace}
+use Rattle.gf2.specs.Rows.{bit, _⊕_, row, part, pick, combine, RowSpace, SameRowSpace, tabulate}
 use Rattle.gf2.specs.Reduced.{Pivot}
 use Rattle.gf2.specs.Additions.{tableAdditions}
-use Rattle.gf2.specs.Inverse.{tabulate}
 use Rattle.words.specs.Words.{value, rowsOf, windowBits}
-use Rattle.method.specs.Stage.{Upto, Pending}
+use Rattle.method.specs.Stage.{Stage, Pending}
 use Rattle.method.specs.Gray.{gray}
 
 -- ---- rows of words
@@ -22,8 +21,8 @@ pub record Sizes (w n len : ℕ) : Type 0 where
   pub few : n ≤ 1280
 
 -- the words of row i, and a row put in its place
-abbrev pub rowAt : ℕ → ℕ → List ℕ → List ℕ
-rowAt i w m = part (i * w) w m
+abbrev pub rowWords : ℕ → ℕ → List ℕ → List ℕ
+rowWords i w m = part (i * w) w m
 
 abbrev pub putRow : List ℕ → ℕ → ℕ → List ℕ → List ℕ
 putRow m i w x = paste m (i * w) x w
@@ -32,16 +31,6 @@ putRow m i w x = paste m (i * w) x w
 pub record Now (w n : ℕ) (m m′ L : List ℕ) : Type 0 where
   pub rows : rowsOf w n m′ ≡ L
   pub past : drop (n * w) m′ ≡ drop (n * w) m
-
--- ---- between windows
-
--- columns below c are done; cols has the r pivots found, and 65,535 behind them
-pub record Stage (n c r : ℕ) (M cols : List ℕ) : Type 0 where
-  pub upto : Upto c r M
-  pub pivots : (i : ℕ) → i < r → Pivot (getD cols i 0) (row M i)
-  pub none : (i : ℕ) → r ≤ i → i < length cols → getD cols i 0 ≡ 65535
-  pub room : r ≤ n
-  pub whole : n ≤ length cols
 
 -- ---- the search in the window of k columns from c, which has passed x columns and found s pivots, in rows base to base + s - 1
 
@@ -68,7 +57,7 @@ abbrev pub Union : ℕ → ℕ → List ℕ → ℕ → Type 0
 Union n from o u = (i y : ℕ) → from ≤ i → i < n → bit y u ≡ 0 → bit y (getD o i 0) ≡ 0
 
 -- the first row from place `from` on with a one in column x, or n
-pub record Found (o : List ℕ) (x from n i : ℕ) : Type 0 where
+pub record FirstOne (o : List ℕ) (x from n i : ℕ) : Type 0 where
   pub low : from ≤ i
   pub high : i ≤ n
   pub one : i < n → bit x (getD o i 0) ≡ 1
@@ -121,7 +110,7 @@ abbrev pub Table : ℕ → List ℕ → (ℕ → ℕ) → Type 0
 Table r P T = (j : ℕ) → 0 < j → j < 2 ^ r → T j ≡ combine j P
 
 -- the recorded pivots of the window of k columns from c
-pub record Marks (c k base r : ℕ) (cols : List ℕ) : Type 0 where
+pub record WindowPivots (c k base r : ℕ) (cols : List ℕ) : Type 0 where
   pub low : (b : ℕ) → b < r → c ≤ getD cols (base + b) 0
   pub high : (b : ℕ) → b < r → getD cols (base + b) 0 < c + k
   pub full : r ≡ k → (b : ℕ) → b < r → getD cols (base + b) 0 ≡ c + b
@@ -186,16 +175,3 @@ pub record Windowed (n c k base r : ℕ) (L N cols cols′ : List ℕ) : Type 0 
   pub old : (i : ℕ) → i < base → getD cols′ i 0 ≡ getD cols i 0
   pub here : (i : ℕ) → base ≤ i → i < base + r → c ≤ getD cols′ i 0
   pub few : r ≤ k
-
--- ---- what all windows together need
-
-pub record Whole (w n columns k : ℕ) (m cols : List ℕ) : Type 0 where
-  pub few : n ≤ 1024
-  pub narrow : w ≤ 16
-  pub wide : columns ≤ 1024
-  pub inside : columns ≤ w * 64
-  pub least : 0 < k
-  pub most : k ≤ 8
-  pub listed : n ≤ length cols
-  pub none : (i : ℕ) → i < length cols → getD cols i 0 ≡ 65535
-  pub clean : (i : ℕ) → row (rowsOf w n m) i < 2 ^ columns

@@ -2,7 +2,7 @@
 ghost use mathlib.Core.Path.{_≡_};
 ghost use Prim.Native.Nat.{ℕ, _+_, _≤_, _<_};
 ghost use lib.ListN.{length, getD};
-ghost use Rattle.engine.specs.Stage.{Union, Found, Swept, Marks, Gathered};
+ghost use Rattle.engine.specs.Stage.{Union, FirstOne, Swept, WindowPivots, Gathered};
 
 // the bytes from place `from` to place `to` become 0
 pub(crate) fn blank(o: &mut [u8], from: usize, to: usize)
@@ -31,7 +31,7 @@ pub(crate) fn copy_bytes(o: &mut [u8], h: &[u8], from: usize, to: usize)
 // the first row from place `from` on whose bit x is one: n if none
 pub(crate) fn find(o: &[u8], x: usize, from: usize, n: usize) -> usize
     requires { ⌜ (x < 8) × (from ≤ n) × (n ≤ length (now o)) ⌝ }
-    ensures { λ i. ⌜ Found (now (o .entry)) x from n i ⌝ }
+    ensures { λ i. ⌜ FirstOne (now (o .entry)) x from n i ⌝ }
 {
     let mut i = from;
     while i < n {
@@ -68,7 +68,7 @@ pub(crate) fn wide(x: u16) -> usize
 
 // the number that the window's bits x name, pivot by pivot
 fn gather(x: u8, cols: &[u16], base: usize, c: usize, k: usize, r: usize) -> u8
-    requires { ⌜ (base + r ≤ length (now cols)) × (k ≤ 8) × (r ≤ k) × Marks c k base r (now cols) ⌝ }
+    requires { ⌜ (base + r ≤ length (now cols)) × (k ≤ 8) × (r ≤ k) × WindowPivots c k base r (now cols) ⌝ }
     ensures { λ y. ⌜ Gathered c base r (now (cols .entry)) x y ⌝ }
 {
     let mut y = 0u8;
@@ -91,7 +91,7 @@ pub(crate) fn gather_all(
     k: usize,
     r: usize,
 )
-    requires { ⌜ (n ≤ length (now o)) × (base + r ≤ length (now cols)) × (k ≤ 8) × (r ≤ k) × Marks c k base r (now cols) ⌝ }
+    requires { ⌜ (n ≤ length (now o)) × (base + r ≤ length (now cols)) × (k ≤ 8) × (r ≤ k) × WindowPivots c k base r (now cols) ⌝ }
     ensures { λ _. ⌜ ((i : ℕ) → i < n → Gathered c base r (now (cols .entry)) (getD (now (o .entry)) i 0) (getD (now (o .exit)) i 0)) ⌝ }
 {
     let mut i = 0;

@@ -4,13 +4,15 @@
 // number of the table row that clears it. cols has the pivot columns found.
 ghost use mathlib.Core.Path.{_≡_};
 ghost use mathlib.Core.Logic.{_⊎_};
-ghost use Prim.Native.Nat.{ℕ, _+_, _*_, _^_, _≤_, _<_, min};
-ghost use lib.ListN.{length, getD, drop};
-ghost use Rattle.gf2.specs.Additions.{windows, tableAdditions};
-ghost use Rattle.words.specs.Words.{rowsOf};
+ghost use mathlib.Core.Bool.{true};
+ghost use Prim.Native.Nat.{_+_, _*_, _^_, _≤_, _<_, min};
+ghost use lib.ListN.{length, drop};
+ghost use Rattle.gf2.specs.Additions.{windows, tableAdditions, additions};
+ghost use Rattle.words.specs.Words.{wordsOf, rowsOf, zeroed};
 ghost use Rattle.refusals.specs.Outcome.{Decides};
-ghost use Rattle.engine.specs.Core.{Fits, Reduction, zeroed, twoSlices, oneRoom};
-ghost use Rattle.engine.specs.Stage.{Sizes, Stage, Book, Windowed, Whole};
+ghost use Rattle.engine.specs.Core.{Fits, ReducedTo, twoSlices, oneRoom};
+ghost use Rattle.method.specs.Stage.{Stage, Unset};
+ghost use Rattle.engine.specs.Stage.{Sizes, Book, Windowed};
 
 mod bytes;
 mod room;
@@ -18,10 +20,17 @@ mod rows;
 mod search;
 mod table;
 
-// pivots and table additions: of one window, or of all so far
+// what one window gives
 pub(crate) struct Progress {
     pub(crate) rank: usize,
     pub(crate) additions: usize,
+}
+
+// done, or nothing was changed; the rank and the table additions
+pub struct Eliminated {
+    pub done: bool,
+    pub rank: usize,
+    pub additions: usize,
 }
 
 // the window of k columns from c
@@ -108,14 +117,14 @@ fn width(columns: usize, k: usize, c: usize) -> usize
 }
 
 // the number of windows
-fn count(columns: usize, k: usize) -> usize
+fn window_count(columns: usize, k: usize) -> usize
     requires { ⌜ (0 < k) × (k ≤ 8) × (columns ≤ 1024) ⌝ }
     ensures { λ r. ⌜ r ≡ windows k columns ⌝ }
 {
     (columns + (k - 1)) / k
 }
 
-// all windows, over rows that have no one past the last column
+// all windows
 fn all(
     m: &mut [u64],
     w: usize,
@@ -124,14 +133,14 @@ fn all(
     k: usize,
     t: &mut [u64],
     cols: &mut [u16],
-) -> Progress
-    requires { ⌜ Whole w n columns k (now m) (now cols) × (2 ^ k * w ≤ length (now t)) × (n * w ≤ length (now m)) ⌝ }
-    ensures { λ p. ⌜ Reduction k columns (rowsOf w n (now (m .entry))) (rowsOf w n (now (m .exit))) (p .rank) (p .additions) (now (cols .exit)) × (drop (n * w) (now (m .exit)) ≡ drop (n * w) (now (m .entry))) × (drop (2 ^ k * w) (now (t .exit)) ≡ drop (2 ^ k * w) (now (t .entry))) ⌝ }
+) -> Eliminated
+    requires { ⌜ (w ≡ wordsOf columns) × Fits n columns k 0 (length (now t)) (length (now cols)) (now m) × Unset (now cols) ⌝ }
+    ensures { λ r. ⌜ (r .done ≡ true) × ReducedTo (additions k columns) (rowsOf w n (now (m .entry))) (rowsOf w n (now (m .exit))) r (now (cols .exit)) × (drop (n * w) (now (m .exit)) ≡ drop (n * w) (now (m .entry))) × (drop (2 ^ k * w) (now (t .exit)) ≡ drop (2 ^ k * w) (now (t .entry))) ⌝ }
 {
     let codes = table::book();
     let mut h = [0u8; 1024];
     let mut o = [0u8; 1024];
-    let end = count(columns, k);
+    let end = window_count(columns, k);
     let mut rank = 0;
     let mut additions = 0;
     let mut j = 0;
@@ -145,21 +154,29 @@ fn all(
         rank += r;
         j += 1;
     }
-    Progress {
+    Eliminated {
+        done: true,
         rank: rank,
         additions: additions,
     }
 }
 
 // the same in one room
-fn all_in(m: &mut [u64], w: usize, n: usize, columns: usize, k: usize, cols: &mut [u16]) -> Progress
-    requires { ⌜ Whole w n columns k (now m) (now cols) × ((n + 2 ^ k) * w ≤ length (now m)) ⌝ }
-    ensures { λ p. ⌜ Reduction k columns (rowsOf w n (now (m .entry))) (rowsOf w n (now (m .exit))) (p .rank) (p .additions) (now (cols .exit)) × (drop ((n + 2 ^ k) * w) (now (m .exit)) ≡ drop ((n + 2 ^ k) * w) (now (m .entry))) ⌝ }
+fn all_in(
+    m: &mut [u64],
+    w: usize,
+    n: usize,
+    columns: usize,
+    k: usize,
+    cols: &mut [u16],
+) -> Eliminated
+    requires { ⌜ (w ≡ wordsOf columns) × Fits n columns k n (length (now m)) (length (now cols)) (now m) × Unset (now cols) ⌝ }
+    ensures { λ r. ⌜ (r .done ≡ true) × ReducedTo (additions k columns) (rowsOf w n (now (m .entry))) (rowsOf w n (now (m .exit))) r (now (cols .exit)) × (drop ((n + 2 ^ k) * w) (now (m .exit)) ≡ drop ((n + 2 ^ k) * w) (now (m .entry))) ⌝ }
 {
     let codes = table::book();
     let mut h = [0u8; 1024];
     let mut o = [0u8; 1024];
-    let end = count(columns, k);
+    let end = window_count(columns, k);
     let mut rank = 0;
     let mut additions = 0;
     let mut j = 0;
@@ -173,7 +190,8 @@ fn all_in(m: &mut [u64], w: usize, n: usize, columns: usize, k: usize, cols: &mu
         rank += r;
         j += 1;
     }
-    Progress {
+    Eliminated {
+        done: true,
         rank: rank,
         additions: additions,
     }
@@ -203,12 +221,12 @@ fn fits(
     if list < rows {
         return false;
     }
-    refusals::holds(m, rows, columns)
+    words::hold_rows(m, rows, columns)
 }
 
 // no pivot yet
 fn forget(cols: &mut [u16])
-    ensures { λ _. ⌜ ((i : ℕ) → i < length (now (cols .entry)) → getD (now (cols .exit)) i 0 ≡ 65535) ⌝ }
+    ensures { λ _. ⌜ Unset (now (cols .exit)) ⌝ }
 {
     let n = cols.len();
     let mut i = 0;
@@ -216,12 +234,6 @@ fn forget(cols: &mut [u16])
         cols[i] = 65535;
         i += 1;
     }
-}
-
-pub struct Eliminated {
-    pub done: bool,
-    pub rank: usize,
-    pub additions: usize,
 }
 
 // reduces the matrix at the start of m, with the table in t, whose needed words end zero. Where the shapes do not fit it changes nothing and says so
@@ -233,7 +245,7 @@ pub fn eliminate(
     k: usize,
     pivots: &mut [u16],
 ) -> Eliminated
-    ensures { λ r. ⌜ twoSlices (r .done) rows columns k (now (m .entry)) (now (t .entry)) (now (pivots .entry)) (now (m .exit)) (now (t .exit)) (now (pivots .exit)) (r .rank) (r .additions) ⌝ }
+    ensures { λ r. ⌜ twoSlices r rows columns k (now (m .entry)) (now (t .entry)) (now (pivots .entry)) (now (m .exit)) (now (t .exit)) (now (pivots .exit)) ⌝ }
 {
     if !fits(m, rows, columns, k, 0, t.len(), pivots.len()) {
         return Eliminated {
@@ -242,17 +254,11 @@ pub fn eliminate(
             additions: 0,
         };
     }
-    let w = refusals::words(columns);
+    let w = words::per_row(columns);
     forget(pivots);
-    let p = all(m, w, rows, columns, k, t, pivots);
+    let r = all(m, w, rows, columns, k, t, pivots);
     rows::zero(t, 0, table::pow2(k) * w);
-    let rank = p.rank;
-    let additions = p.additions;
-    Eliminated {
-        done: true,
-        rank: rank,
-        additions: additions,
-    }
+    r
 }
 
 // the same with the table behind the matrix in one room
@@ -263,7 +269,7 @@ pub fn eliminate_in(
     k: usize,
     pivots: &mut [u16],
 ) -> Eliminated
-    ensures { λ r. ⌜ oneRoom (r .done) rows columns k (now (m .entry)) (now (pivots .entry)) (now (m .exit)) (now (pivots .exit)) (r .rank) (r .additions) ⌝ }
+    ensures { λ r. ⌜ oneRoom r rows columns k (now (m .entry)) (now (pivots .entry)) (now (m .exit)) (now (pivots .exit)) ⌝ }
 {
     if !fits(m, rows, columns, k, rows, m.len(), pivots.len()) {
         return Eliminated {
@@ -272,21 +278,15 @@ pub fn eliminate_in(
             additions: 0,
         };
     }
-    let w = refusals::words(columns);
+    let w = words::per_row(columns);
     forget(pivots);
-    let p = all_in(m, w, rows, columns, k, pivots);
+    let r = all_in(m, w, rows, columns, k, pivots);
     rows::zero(m, rows * w, table::pow2(k) * w);
-    let rank = p.rank;
-    let additions = p.additions;
-    Eliminated {
-        done: true,
-        rank: rank,
-        additions: additions,
-    }
+    r
 }
 
 // the first len words become zero, as far as there are so many
-pub fn blank(d: &mut [u64], len: usize)
+pub fn zero_front(d: &mut [u64], len: usize)
     ensures { λ _. ⌜ now (d .exit) ≡ zeroed 0 (min len (length (now (d .entry)))) (now (d .entry)) ⌝ }
 {
     let n = d.len();

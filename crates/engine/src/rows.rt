@@ -6,7 +6,7 @@ ghost use lib.ListN.{length, set, replicate};
 ghost use lib.Seq.{paste};
 ghost use Rattle.gf2.specs.Rows.{bit, _⊕_, row, part, swapped, pick};
 ghost use Rattle.words.specs.Words.{value, rowsOf, xors, windowBits};
-ghost use Rattle.engine.specs.Stage.{rowAt, putRow, Now};
+ghost use Rattle.engine.specs.Stage.{rowWords, putRow, Now};
 
 // v words from place b of s on are added to those from place a of d on
 pub(crate) fn add_words(d: &mut [u64], a: usize, s: &[u64], b: usize, v: usize)
@@ -23,7 +23,7 @@ pub(crate) fn add_words(d: &mut [u64], a: usize, s: &[u64], b: usize, v: usize)
 // row j of d is added to row i of d
 fn add_within(d: &mut [u64], i: usize, j: usize, w: usize)
     requires { ⌜ (i * w + w ≤ length (now d)) × (j * w + w ≤ length (now d)) × (i ≢ j) ⌝ }
-    ensures { λ _. ⌜ now (d .exit) ≡ putRow (now (d .entry)) i w (xors (rowAt i w (now (d .entry))) (rowAt j w (now (d .entry)))) ⌝ }
+    ensures { λ _. ⌜ now (d .exit) ≡ putRow (now (d .entry)) i w (xors (rowWords i w (now (d .entry))) (rowWords j w (now (d .entry)))) ⌝ }
 {
     let a = i * w;
     let b = j * w;
@@ -49,7 +49,7 @@ pub(crate) fn copy_words(d: &mut [u64], a: usize, s: &[u64], b: usize, v: usize)
 // rows i and j of d change places
 fn swap_rows(d: &mut [u64], i: usize, j: usize, w: usize)
     requires { ⌜ (i * w + w ≤ length (now d)) × (j * w + w ≤ length (now d)) × (i ≢ j) ⌝ }
-    ensures { λ _. ⌜ now (d .exit) ≡ putRow (putRow (now (d .entry)) i w (rowAt j w (now (d .entry)))) j w (rowAt i w (now (d .entry))) ⌝ }
+    ensures { λ _. ⌜ now (d .exit) ≡ putRow (putRow (now (d .entry)) i w (rowWords j w (now (d .entry)))) j w (rowWords i w (now (d .entry))) ⌝ }
 {
     let a = i * w;
     let b = j * w;
@@ -84,7 +84,7 @@ fn mask(k: usize) -> u64
 // the k bits of row i from column c on, as a number: one word or two are read
 pub(crate) fn bits(m: &[u64], w: usize, i: usize, c: usize, k: usize) -> u64
     requires { ⌜ (c + k ≤ w * 64) × (0 < k) × (k ≤ 8) × (i * w + w ≤ length (now m)) ⌝ }
-    ensures { λ x. ⌜ x ≡ windowBits c k (value (rowAt i w (now (m .entry)))) ⌝ }
+    ensures { λ x. ⌜ x ≡ windowBits c k (value (rowWords i w (now (m .entry)))) ⌝ }
 {
     let at = i * w + c / 64;
     let s = c % 64;
@@ -99,7 +99,7 @@ pub(crate) fn bits(m: &[u64], w: usize, i: usize, c: usize, k: usize) -> u64
 // bit c of row i, a number 0 or 1
 fn bit_at(m: &[u64], w: usize, i: usize, c: usize) -> u64
     requires { ⌜ (c / 64 < w) × (i * w + w ≤ length (now m)) ⌝ }
-    ensures { λ x. ⌜ x ≡ bit c (value (rowAt i w (now (m .entry)))) ⌝ }
+    ensures { λ x. ⌜ x ≡ bit c (value (rowWords i w (now (m .entry)))) ⌝ }
 {
     (m[i * w + c / 64] >> (c % 64)) % 2
 }

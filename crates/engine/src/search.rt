@@ -5,7 +5,8 @@ ghost use Prim.Native.Nat.{ℕ, _+_, _*_, _/_, _≤_, _<_};
 ghost use lib.ListN.{length, set, getD, drop};
 ghost use Rattle.gf2.specs.Rows.{bit, row, SameRowSpace};
 ghost use Rattle.words.specs.Words.{rowsOf, value, windowBits};
-ghost use Rattle.engine.specs.Stage.{Sizes, rowAt, Stage, Search, Union, Own, Settled, Lifted, Marks, Numbers};
+ghost use Rattle.method.specs.Stage.{Stage};
+ghost use Rattle.engine.specs.Stage.{Sizes, rowWords, Search, Union, Own, Settled, Lifted, WindowPivots, Numbers};
 use super::bytes;
 use super::rows;
 
@@ -17,7 +18,7 @@ pub(crate) struct Seen {
 
 fn byte(m: &[u64], w: usize, i: usize, c: usize, k: usize) -> u8
     requires { ⌜ (c + k ≤ w * 64) × (0 < k) × (k ≤ 8) × (i * w + w ≤ length (now m)) ⌝ }
-    ensures { λ x. ⌜ x ≡ windowBits c k (value (rowAt i w (now (m .entry)))) ⌝ }
+    ensures { λ x. ⌜ x ≡ windowBits c k (value (rowWords i w (now (m .entry)))) ⌝ }
 {
     rows::bits(m, w, i, c, k) as u8
 }
@@ -175,7 +176,7 @@ pub(crate) fn numbers(
     h: &mut [u8],
     cols: &[u16],
 )
-    requires { ⌜ Sizes w n (length (now m)) × (c + k ≤ w * 64) × (0 < k) × (k ≤ 8) × (r ≤ k) × (base + r ≤ n) × (n ≤ length (now h)) × (n ≤ length (now cols)) × Marks c k base r (now cols) × ((i : ℕ) → base + r ≤ i → i < n → getD (now h) i 0 ≡ windowBits c k (row (rowsOf w n (now m)) i)) ⌝ }
+    requires { ⌜ Sizes w n (length (now m)) × (c + k ≤ w * 64) × (0 < k) × (k ≤ 8) × (r ≤ k) × (base + r ≤ n) × (n ≤ length (now h)) × (n ≤ length (now cols)) × WindowPivots c k base r (now cols) × ((i : ℕ) → base + r ≤ i → i < n → getD (now h) i 0 ≡ windowBits c k (row (rowsOf w n (now m)) i)) ⌝ }
     ensures { λ _. ⌜ Numbers n base r (rowsOf w n (now (m .entry))) (now (h .exit)) (now (cols .entry)) ⌝ }
 {
     read(m, w, n, c, k, 0, base, h);

@@ -10,27 +10,27 @@ use borrow.Author.Tests.{lt-ltb, le-ltb, le-leb, lt-leb}
 use lib.Dec.{leb, ltb}
 use lib.ListN.{length, getD}
 use lib.Pow.{pow-pos, pow-mono}
-use Rattle.gf2.specs.Rows.{SameRowSpace}
+use Rattle.gf2.specs.Rows.{SameRowSpace, oneIf}
 use Rattle.gf2.specs.Reduced.{Reduced, pivots, Rising}
-use Rattle.gf2.specs.Additions.{windows, count, within, inWindow, totalTo, total, tableAdditions, additions}
+use Rattle.gf2.specs.Additions.{windows, within, inWindow, totalTo, total, tableAdditions, additions}
 use Rattle.gf2.proofs.Pivots.{pivots-rising, same-pivots}
 
 -- ---- columns a to e - 1
 
-pub count-in : (a e p : ℕ) → a ≤ p → p < e → count (leb a p && ltb p e) ≡ 1
+pub count-in : (a e p : ℕ) → a ≤ p → p < e → oneIf (leb a p && ltb p e) ≡ 1
 count-in a e p h l = rw (le-leb a p h, lt-ltb p e l)
 
-pub count-left : (a e p : ℕ) → p < a → count (leb a p && ltb p e) ≡ 0
+pub count-left : (a e p : ℕ) → p < a → oneIf (leb a p && ltb p e) ≡ 0
 count-left a e p h = rw (lt-leb a p h)
 
-pub count-right : (a e p : ℕ) → e ≤ p → count (leb a p && ltb p e) ≡ 0
+pub count-right : (a e p : ℕ) → e ≤ p → oneIf (leb a p && ltb p e) ≡ 0
 count-right a e p h = rw (le-ltb p e h) (go (leb a p))
   where
-    go : (b : Bool) → count (b && false) ≡ 0
+    go : (b : Bool) → oneIf (b && false) ≡ 0
     go true = refl
     go false = refl
 
-pub within-none : (a e : ℕ) (ps : List ℕ) → ((i : ℕ) → i < length ps → count (leb a (getD ps i 0) && ltb (getD ps i 0) e) ≡ 0) → within a e ps ≡ 0
+pub within-none : (a e : ℕ) (ps : List ℕ) → ((i : ℕ) → i < length ps → oneIf (leb a (getD ps i 0) && ltb (getD ps i 0) e) ≡ 0) → within a e ps ≡ 0
 unfolding within
 within-none a e [] h = refl
 within-none a e (p ∷ ps) h = rw (h 0 (omega arith), within-none a e ps (λ i l. h (suc i) (omega arith)))
@@ -38,7 +38,7 @@ within-none a e (p ∷ ps) h = rw (h 0 (omega arith), within-none a e ps (λ i l
 pub within-empty : (a e : ℕ) (ps : List ℕ) → e ≤ a → within a e ps ≡ 0
 within-empty a e ps h = within-none a e ps (λ i l. go (getD ps i 0) (decLt (getD ps i 0) a))
   where
-    go : (p : ℕ) → Dec (p < a) → count (leb a p && ltb p e) ≡ 0
+    go : (p : ℕ) → Dec (p < a) → oneIf (leb a p && ltb p e) ≡ 0
     go p (yes l) = count-left a e p l
     go p (no k) = count-right a e p (omega arith)
 
@@ -49,7 +49,7 @@ within-split a b e [] h k = refl
 within-split a b e (p ∷ ps) h k =
     rw (within-split a b e ps h k) (omega (arith, one (decLt p a) (decLt p b) (decLt p e)))
   where
-    one : Dec (p < a) → Dec (p < b) → Dec (p < e) → count (leb a p && ltb p e) ≡ count (leb a p && ltb p b) + count (leb b p && ltb p e)
+    one : Dec (p < a) → Dec (p < b) → Dec (p < e) → oneIf (leb a p && ltb p e) ≡ oneIf (leb a p && ltb p b) + oneIf (leb b p && ltb p e)
     one (yes l) _ _ = rw (count-left a e p l, count-left a b p l, count-left b e p (omega arith))
     one (no n) (yes l) _ = rw (count-in a e p (omega arith) (omega arith), count-in a b p (omega arith) l, count-left b e p l)
     one (no n) (no m) (yes l) = rw (count-in a e p (omega arith) l, count-right a b p (omega arith), count-in b e p (omega arith) l)
@@ -64,7 +64,7 @@ unfolding within
 within-column c [] h = omega arith
 within-column c (p ∷ ps) h = go (ℕ-discrete p c) (within-column c ps (rising-tail p ps h))
   where
-    go : Dec (p ≡ c) → within c (suc c) ps ≤ 1 → count (leb c p && ltb p (suc c)) + within c (suc c) ps ≤ 1
+    go : Dec (p ≡ c) → within c (suc c) ps ≤ 1 → oneIf (leb c p && ltb p (suc c)) + within c (suc c) ps ≤ 1
     go (yes e) ih =
         rw (
           count-in c (suc c) p (omega arith) (omega arith),
@@ -72,7 +72,7 @@ within-column c (p ∷ ps) h = go (ℕ-discrete p c) (within-column c ps (rising
         ) (omega arith)
     go (no n) ih = rw (out (decLt p c)) (omega arith)
       where
-        out : Dec (p < c) → count (leb c p && ltb p (suc c)) ≡ 0
+        out : Dec (p < c) → oneIf (leb c p && ltb p (suc c)) ≡ 0
         out (yes l) = count-left c (suc c) p l
         out (no m) = count-right c (suc c) p (omega arith)
 

@@ -10,8 +10,8 @@ use lib.Bits.{xor-zero-r, xor-comm, xor-shifted}
 use lib.ListN.{List·getD-map, length, getD, length-map}
 use lib.Pow.{pow-pos, pow-lt, mod-pow-add}
 use lib.Seq.{ext-getD}
-use Rattle.gf2.specs.Rows.{_⊕_, row, pick, combine}
-use Rattle.gf2.specs.Inverse.{tabulate, identity, product}
+use Rattle.gf2.specs.Rows.{_⊕_, row, pick, combine, tabulate}
+use Rattle.gf2.specs.Inverse.{identity, product}
 use Rattle.gf2.proofs.Bits.{half-lt, xor-four}
 use Rattle.gf2.proofs.Space.{pick-sum, combine-zero, combine-pow, combine-xor, combine-map}
 

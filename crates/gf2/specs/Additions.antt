@@ -1,24 +1,20 @@
 -- Table additions, counted from the pivots of a reduced matrix alone.
 use mathlib.Core.Path.{_≡_, refl}
-use mathlib.Core.Bool.{Bool, true, false, _&&_}
+use mathlib.Core.Bool.{_&&_}
 use mathlib.Core.List.{List, [], _∷_}
 use Prim.Native.Nat.{ℕ, zero, suc, _+_, _-_, _*_, _/_, _^_, min}
 use lib.Dec.{leb, ltb}
+use Rattle.gf2.specs.Rows.{oneIf}
 use Rattle.gf2.specs.Reduced.{pivots}
 
 -- how many windows of k columns there are; the last may be narrower
 abbrev pub windows : ℕ → ℕ → ℕ
 windows k columns = (columns + (k - 1)) / k
 
--- 1 where the test holds, else 0
-abbrev pub count : Bool → ℕ
-count true = 1
-count false = 0
-
 -- how many of the numbers stand in columns a to e - 1
 unfoldable pub within : ℕ → ℕ → List ℕ → ℕ
 within a e [] = 0
-within a e (p ∷ ps) = count (leb a p && ltb p e) + within a e ps
+within a e (p ∷ ps) = oneIf (leb a p && ltb p e) + within a e ps
 
 -- the pivots in window j: columns j * k to j * k + k - 1, as far as there are columns
 unfoldable pub inWindow : ℕ → ℕ → List ℕ → ℕ → ℕ

@@ -2,15 +2,10 @@
 use mathlib.Core.Path.{_≡_}
 use mathlib.Core.Bool.{Bool, true, false, _&&_}
 use mathlib.Core.List.{List, [], _∷_, map}
-use Prim.Native.Nat.{ℕ, zero, suc, _+_, _/_, _%_, _^_}
+use Prim.Native.Nat.{ℕ, _+_, _/_, _%_, _^_}
 use lib.Dec.{eqb}
 use lib.ListN.{length}
-use Rattle.gf2.specs.Rows.{_⊕_, row, Matrix, combine}
-
--- f 0, f 1, .. f (n - 1)
-unfoldable pub tabulate : ℕ → (ℕ → ℕ) → List ℕ
-tabulate zero f = []
-tabulate (suc n) f = f 0 ∷ tabulate n (λ i. f (suc i))
+use Rattle.gf2.specs.Rows.{_⊕_, row, tabulate, Matrix, combine}
 
 abbrev pub identity : ℕ → List ℕ
 identity n = tabulate n (λ i. 2 ^ i)

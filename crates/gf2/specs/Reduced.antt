@@ -2,10 +2,10 @@
 use mathlib.Core.Path.{_≡_}
 use mathlib.Core.Logic.{_≢_}
 use mathlib.Core.Bool.{Bool, true, false}
-use mathlib.Core.List.{List, [], _∷_}
-use Prim.Native.Nat.{ℕ, zero, suc, _/_, _%_, _≤_, _<_}
+use mathlib.Core.List.{List, [], _∷_, _++_}
+use Prim.Native.Nat.{ℕ, zero, suc, _-_, _/_, _%_, _≤_, _<_}
 use lib.Dec.{eqb}
-use lib.ListN.{length, getD}
+use lib.ListN.{length, getD, replicate}
 use Rattle.gf2.specs.Rows.{bit, row, SameRowSpace}
 
 -- column p holds the first one of the row v: p is its pivot
@@ -50,6 +50,10 @@ pivots (r ∷ M) = addPivot (eqb r 0) (pivot r) (pivots M)
 
 abbrev pub rank : List ℕ → ℕ
 rank M = length (pivots M)
+
+-- the pivots in a list of len places, 65,535 behind them
+abbrev pub pivotRecord : ℕ → List ℕ → List ℕ
+pivotRecord len M = pivots M ++ replicate (len - rank M) 65535
 
 -- ps are the pivots of the first rows of R, and the other rows are zero
 pub record PivotList (R ps : List ℕ) : Type 0 where

@@ -1,6 +1,7 @@
 -- Rows, matrices, and what can be made of rows by adding them up.
 -- A row is a number: column c is its digit of weight 2 ^ c. A matrix is a list of rows, of any length.
 use mathlib.Core.Path.{_≡_}
+use mathlib.Core.Bool.{Bool, true, false}
 use mathlib.Core.List.{List, [], _∷_}
 use Prim.Native.Nat.{ℕ, zero, suc, _/_, _%_, _^_, _<_}
 use lib.Bits.{bitXor}
@@ -15,9 +16,19 @@ bit c v = v / 2 ^ c % 2
 abbrev pub _⊕_ : ℕ → ℕ → ℕ
 a ⊕ b = bitXor a b
 
+-- the digit of a test: 1 where it holds, else 0
+abbrev pub oneIf : Bool → ℕ
+oneIf true = 1
+oneIf false = 0
+
 -- row i; past the last row, zero
 abbrev pub row : List ℕ → ℕ → ℕ
 row M i = getD M i 0
+
+-- f 0, f 1, .. f (n - 1)
+unfoldable pub tabulate : ℕ → (ℕ → ℕ) → List ℕ
+tabulate zero f = []
+tabulate (suc n) f = f 0 ∷ tabulate n (λ i. f (suc i))
 
 -- the s rows from row r on
 abbrev pub part : ℕ → ℕ → List ℕ → List ℕ

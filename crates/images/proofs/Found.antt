@@ -14,7 +14,7 @@ use Rattle.gf2.specs.Rows.{row, SameRowSpace}
 use Rattle.gf2.specs.Reduced.{Pivot, Reduced}
 use Rattle.gf2.proofs.Pivot.{pivot-cases, pivot-not-zero, no-pivot, pivot-unique, pivot-cut, pivot-uncut, pivot-narrow, cut-zero, zero-cut}
 use Rattle.gf2.proofs.Reduced.{same-reduced-rows}
-use Rattle.images.specs.ReadOff.{inside, pivotRow, Found, Missing}
+use Rattle.images.specs.ReadOff.{inside, pivotRow, PivotIn, NoPivotIn}
 
 -- ---- the test: nothing left of column a, something left of column e
 
@@ -37,12 +37,12 @@ inside-cases a e r = go (eqb (r % 2 ^ a) 0) (eqb (r % 2 ^ e) 0) refl refl
             let g : Pivot q r = pivot-uncut e q r l f in
             (q, g, zero-cut a q r (eqb-true (r % 2 ^ a) 0 ex) g, l)
 
-pub found-cases : (a e : ℕ) (R : List ℕ) → Missing a e R ⊎ Found a e R
+pub found-cases : (a e : ℕ) (R : List ℕ) → NoPivotIn a e R ⊎ PivotIn a e R
 unfolding pivotRow
 found-cases a e [] = inl (record { is = refl; none = λ j q f h l. no-pivot q f })
 found-cases a e (r ∷ R) = go (inside-cases a e r) (found-cases a e R)
   where
-    go : ((inside a e r ≡ true) × Inside a e r) ⊎ ((inside a e r ≡ false) × (Inside a e r → ⊥)) → Missing a e R ⊎ Found a e R → Missing a e (r ∷ R) ⊎ Found a e (r ∷ R)
+    go : ((inside a e r ≡ true) × Inside a e r) ⊎ ((inside a e r ≡ false) × (Inside a e r → ⊥)) → NoPivotIn a e R ⊎ PivotIn a e R → NoPivotIn a e (r ∷ R) ⊎ PivotIn a e (r ∷ R)
     go (inl (b, (q, f, h, l))) _ =
         inr (record { at = 0; column = q; pivot = f; from = h; to = l; is = rw b; first = λ j q m g x y. absurd (omega arith) })
     go (inr (b, k)) (inl m) = inl (record { is = rw b (m .is); none = none })
@@ -58,7 +58,7 @@ found-cases a e (r ∷ R) = go (inside-cases a e r) (found-cases a e R)
         first (suc j) q m f h l = t .first j q (omega arith) f h l
 
 -- in a reduced list its pivot is the first one there
-pub found-leftmost : (a e : ℕ) (R : List ℕ) → Reduced R → (t : Found a e R) → (j q : ℕ) → Pivot q (row R j) → a ≤ q → q < e → t .column ≤ q
+pub found-leftmost : (a e : ℕ) (R : List ℕ) → Reduced R → (t : PivotIn a e R) → (j q : ℕ) → Pivot q (row R j) → a ≤ q → q < e → t .column ≤ q
 found-leftmost a e R hR t j q f h l = go (decLt j (t .at)) (ℕ-discrete j (t .at))
   where
     go : Dec (j < t .at) → Dec (j ≡ t .at) → t .column ≤ q
@@ -67,7 +67,7 @@ found-leftmost a e R hR t j q f h l = go (decLt j (t .at)) (ℕ-discrete j (t .a
     go (no m) (no i) = omega (arith, hR .rising (t .at) j (t .column) q (omega arith) (t .pivot) f)
 
 -- a found row is not zero
-pub found-not-zero : (a e : ℕ) (R : List ℕ) → Found a e R → pivotRow a e R ≢ 0
+pub found-not-zero : (a e : ℕ) (R : List ℕ) → PivotIn a e R → pivotRow a e R ≢ 0
 found-not-zero a e R t z = pivot-not-zero (t .column) (row R (t .at)) (t .pivot) (sym (t .is) ∙ z)
 
 -- ---- it follows from the rows, and so from the row space

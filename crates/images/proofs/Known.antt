@@ -16,7 +16,7 @@ use Rattle.gf2.specs.Reduced.{Pivot, Reduced}
 use Rattle.gf2.proofs.Space.{combine-pow, same-sym, same-narrow}
 use Rattle.gf2.proofs.Pivot.{pivot-narrow}
 use Rattle.images.specs.Packets.{Meets, MeetsAll, Met, Contradictory, Agreed}
-use Rattle.images.specs.ReadOff.{pivotRow, Found, Missing, hasPivot, contradictory, known, content}
+use Rattle.images.specs.ReadOff.{pivotRow, PivotIn, NoPivotIn, hasPivot, contradictory, known, content}
 use Rattle.images.proofs.Found.{found-cases, found-not-zero}
 use Rattle.images.proofs.Meeting.{meets-same, met-pivot}
 use Rattle.images.proofs.Solution.{rowOf, rowOf-cases, solution, solution-meets, solution-image, two-images}
@@ -26,21 +26,21 @@ module _ (n p : ℕ) (L R : List ℕ) (narrow : (i : ℕ) → row L i < 2 ^ (n +
   narrowR = same-narrow (n + p) L R same narrow
 
   -- a pivot in the payload, or none and then every pivot among the coefficients
-  low : Missing n (n + p) R → (i q : ℕ) → Pivot q (row R i) → q < n
+  low : NoPivotIn n (n + p) R → (i q : ℕ) → Pivot q (row R i) → q < n
   low m i q f = go (decLt q n)
     where
       go : Dec (q < n) → q < n
       go (yes l) = l
       go (no k) = absurd (m .none i q f (omega arith) (pivot-narrow (n + p) q (row R i) (narrowR i) f))
 
-  pub missing-met : Missing n (n + p) R → Met n p L
+  pub missing-met : NoPivotIn n (n + p) R → Met n p L
   missing-met m = (
     solution n R hR (low m),
     solution-image n R hR (low m) p narrowR,
     meets-same n (solution n R hR (low m)) R L (same-sym same) (solution-meets n R hR (low m)),
   )
 
-  found-unmet : Found n (n + p) R → Contradictory n p L
+  found-unmet : PivotIn n (n + p) R → Contradictory n p L
   found-unmet t (X, _, h) =
       omega (arith, t .from, met-pivot n (t .column) X (row R (t .at)) (meets-same n X L R same h (t .at)) (t .pivot))
 
@@ -49,11 +49,11 @@ module _ (n p : ℕ) (L R : List ℕ) (narrow : (i : ℕ) → row L i < 2 ^ (n +
   unfolding hasPivot
   contradictory-exactly = (to (found-cases n (n + p) R), back (found-cases n (n + p) R))
     where
-      to : Missing n (n + p) R ⊎ Found n (n + p) R → T (contradictory n p R) → Contradictory n p L
+      to : NoPivotIn n (n + p) R ⊎ PivotIn n (n + p) R → T (contradictory n p R) → Contradictory n p L
       to (inl m) t = absurd (subst T (ap not (eq-eqb (pivotRow n (n + p) R) 0 (m .is))) t)
       to (inr f) t = found-unmet f
 
-      back : Missing n (n + p) R ⊎ Found n (n + p) R → Contradictory n p L → T (contradictory n p R)
+      back : NoPivotIn n (n + p) R ⊎ PivotIn n (n + p) R → Contradictory n p L → T (contradictory n p R)
       back (inl m) k = absurd (k (missing-met m))
       back (inr f) k = rw (ne-eqb (pivotRow n (n + p) R) 0 (found-not-zero n (n + p) R f)) tt
 
@@ -61,7 +61,7 @@ module _ (n p : ℕ) (L R : List ℕ) (narrow : (i : ℕ) → row L i < 2 ^ (n +
   pub met-cases : Met n p L ⊎ Contradictory n p L
   met-cases = go (found-cases n (n + p) R)
     where
-      go : Missing n (n + p) R ⊎ Found n (n + p) R → Met n p L ⊎ Contradictory n p L
+      go : NoPivotIn n (n + p) R ⊎ PivotIn n (n + p) R → Met n p L ⊎ Contradictory n p L
       go (inl m) = inl (missing-met m)
       go (inr f) = inr (found-unmet f)
 
@@ -82,7 +82,7 @@ module _ (n p : ℕ) (L R : List ℕ) (narrow : (i : ℕ) → row L i < 2 ^ (n +
   unfolding known
   agreed-known pos met j l agreed = go (found-cases n (n + p) R) (ℕ-discrete (rowOf R j % 2 ^ n) (2 ^ j))
     where
-      go : Missing n (n + p) R ⊎ Found n (n + p) R → Dec (rowOf R j % 2 ^ n ≡ 2 ^ j) → T (known n R j)
+      go : NoPivotIn n (n + p) R ⊎ PivotIn n (n + p) R → Dec (rowOf R j % 2 ^ n ≡ 2 ^ j) → T (known n R j)
       go (inr f) _ = absurd (found-unmet f met)
       go (inl m) (yes e) = rw e (eqb-refl (2 ^ j))
       go (inl m) (no k) =

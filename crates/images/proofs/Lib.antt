@@ -1,4 +1,5 @@
 pub mod Found
+pub mod Narrow
 pub mod Meeting
 pub mod Solution
 pub mod Known

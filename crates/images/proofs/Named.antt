@@ -18,14 +18,14 @@ use Rattle.gf2.proofs.Reduced.{space-pivot}
 use Rattle.gf2.proofs.Rref.{rref-form}
 use Rattle.gf2.proofs.Adjoin.{adjoin-left, adjoin-names, adjoin-narrow}
 use Rattle.images.specs.Packets.{Met, Contradiction}
-use Rattle.images.specs.ReadOff.{pivotRow, Found, Missing, named}
+use Rattle.images.specs.ReadOff.{pivotRow, PivotIn, NoPivotIn, named}
 use Rattle.images.proofs.Found.{found-cases, same-pivotRow}
 use Rattle.images.proofs.Meeting.{contradiction-unmet}
 use Rattle.images.proofs.Known.{missing-met}
 
 module _ (n p : ℕ) (L R : List ℕ) (narrow : (i : ℕ) → row L i < 2 ^ (n + p)) (hR : Reduced R) (same : SameRowSpace (adjoin (n + p) L) R) where
   -- the row found names packets that contradict each other
-  pub found-names : Found n (n + p) R → Contradiction n L (named n p R)
+  pub found-names : PivotIn n (n + p) R → Contradiction n L (named n p R)
   unfolding named
   found-names t =
       let v : ℕ = row R (t .at) in
@@ -37,7 +37,7 @@ module _ (n p : ℕ) (L R : List ℕ) (narrow : (i : ℕ) → row L i < 2 ^ (n +
       })
 
   -- where no row is found no row of the reduced packets has a pivot in the payload
-  missing-missing : Missing n (n + p) R → Missing n (n + p) (rref L) ⊎ Found n (n + p) (rref L) → Missing n (n + p) (rref L)
+  missing-missing : NoPivotIn n (n + p) R → NoPivotIn n (n + p) (rref L) ⊎ PivotIn n (n + p) (rref L) → NoPivotIn n (n + p) (rref L)
   missing-missing m (inl k) = k
   missing-missing m (inr t) =
       let s : RowSpace L (row (rref L) (t .at)) = rref-form L .space .back (row (rref L) (t .at)) (space-row (rref L) (t .at)) in
@@ -46,7 +46,7 @@ module _ (n p : ℕ) (L R : List ℕ) (narrow : (i : ℕ) → row L i < 2 ^ (n +
       let k = space-pivot R hR u (t .column) (same .to u (s .0, refl)) f in
       absurd (m .none (k .0) (t .column) (k .2) (t .from) (t .to))
 
-  pub missing-none : Missing n (n + p) R → named n p R ≡ 0
+  pub missing-none : NoPivotIn n (n + p) R → named n p R ≡ 0
   unfolding named
   missing-none m = rw (m .is) (zero-div (2 ^ (n + p)))
 
@@ -54,7 +54,7 @@ module _ (n p : ℕ) (L R : List ℕ) (narrow : (i : ℕ) → row L i < 2 ^ (n +
   pub named-contradicts : named n p R ≢ 0 → Contradiction n L (named n p R)
   named-contradicts k = go (found-cases n (n + p) R)
     where
-      go : Missing n (n + p) R ⊎ Found n (n + p) R → Contradiction n L (named n p R)
+      go : NoPivotIn n (n + p) R ⊎ PivotIn n (n + p) R → Contradiction n L (named n p R)
       go (inl m) = absurd (k (missing-none m))
       go (inr t) = found-names t
 
@@ -62,11 +62,11 @@ module _ (n p : ℕ) (L R : List ℕ) (narrow : (i : ℕ) → row L i < 2 ^ (n +
   pub none-exactly : (named n p R ≡ 0) ↔ Met n p L
   none-exactly = (to (found-cases n (n + p) R), back (found-cases n (n + p) R))
     where
-      to : Missing n (n + p) R ⊎ Found n (n + p) R → named n p R ≡ 0 → Met n p L
+      to : NoPivotIn n (n + p) R ⊎ PivotIn n (n + p) R → named n p R ≡ 0 → Met n p L
       to (inl m) e = missing-met n p L (rref L) narrow (rref-form L .reduced) (rref-form L .space) (missing-missing m (found-cases n (n + p) (rref L)))
       to (inr t) e = absurd (found-names t .payloads-not (rw (e, combine-zero L) (zero-div (2 ^ n))))
 
-      back : Missing n (n + p) R ⊎ Found n (n + p) R → Met n p L → named n p R ≡ 0
+      back : NoPivotIn n (n + p) R ⊎ PivotIn n (n + p) R → Met n p L → named n p R ≡ 0
       back (inl m) _ = missing-none m
       back (inr t) met = absurd (contradiction-unmet n p L (named n p R) (found-names t) met)
 
@@ -75,7 +75,7 @@ module _ (n p : ℕ) (L R : List ℕ) (narrow : (i : ℕ) → row L i < 2 ^ (n +
   unfolding named
   named-narrow = go (found-cases n (n + p) R)
     where
-      go : Missing n (n + p) R ⊎ Found n (n + p) R → pivotRow n (n + p) R / 2 ^ (n + p) < 2 ^ length L
+      go : NoPivotIn n (n + p) R ⊎ PivotIn n (n + p) R → pivotRow n (n + p) R / 2 ^ (n + p) < 2 ^ length L
       go (inl m) = rw (m .is, zero-div (2 ^ (n + p))) (pow-pos (length L))
       go (inr t) =
           let e : (n + p) + length L ≡ length L + (n + p) = omega arith in

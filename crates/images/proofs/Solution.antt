@@ -8,30 +8,29 @@ use native.Mathlib.Nat.{zero-mod, zero-div}
 use native.Mathlib.Omega.{arith}
 use lib.Bits.{differ, xor-zero-l, xor-zero-r, xor-self, xor-lt}
 use lib.Pow.{pow-pos, pow-mono, shr-lt}
-use Rattle.gf2.specs.Rows.{bit, _⊕_, row, pick, combine}
+use Rattle.gf2.specs.Rows.{bit, _⊕_, row, pick, combine, tabulate}
 use Rattle.gf2.specs.Reduced.{Pivot, Reduced}
-use Rattle.gf2.specs.Inverse.{tabulate}
 use Rattle.gf2.proofs.Bits.{bit-lt, bit-cases, bit-of-zero, bit-xor, bit-mod, bit-mod-above, bit-pow, bit-pow-other, differ-zero, xor-cancel, eq-of-xor}
 use Rattle.gf2.proofs.Space.{pick-zero, combine-zero, combine-none, combine-only}
 use Rattle.gf2.proofs.Pivot.{pivot-cases, pivot-unique}
 use Rattle.gf2.proofs.Reduced.{pivot-row}
 use Rattle.gf2.proofs.Products.{tabulate-row, tabulate-past, tabulate-length, tabulate-each, combine-tabulate-xor}
 use Rattle.images.specs.Packets.{payload, Image, Meets, MeetsAll}
-use Rattle.images.specs.ReadOff.{pivotRow, Found, Missing}
+use Rattle.images.specs.ReadOff.{pivotRow, PivotIn, NoPivotIn}
 use Rattle.images.proofs.Found.{found-cases}
 
 -- the row whose pivot is j, or zero
 abbrev pub rowOf : List ℕ → ℕ → ℕ
 rowOf R j = pivotRow j (suc j) R
 
-found-pivot : (R : List ℕ) (j : ℕ) → (t : Found j (suc j) R) → Pivot j (row R (t .at))
+found-pivot : (R : List ℕ) (j : ℕ) → (t : PivotIn j (suc j) R) → Pivot j (row R (t .at))
 found-pivot R j t = let e : t .column ≡ j = omega (arith, t .from, t .to) in rw e at (t .pivot)
 
 -- a row by itself
 pub rowOf-row : (R : List ℕ) → Reduced R → (i p : ℕ) → Pivot p (row R i) → rowOf R p ≡ row R i
 rowOf-row R hR i p f = go (found-cases p (suc p) R)
   where
-    go : Missing p (suc p) R ⊎ Found p (suc p) R → rowOf R p ≡ row R i
+    go : NoPivotIn p (suc p) R ⊎ PivotIn p (suc p) R → rowOf R p ≡ row R i
     go (inl m) = absurd (m .none i p f (omega arith) (omega arith))
     go (inr t) = t .is ∙ ap (row R) (pivot-row R hR i (t .at) p f (found-pivot R p t))
 
@@ -39,7 +38,7 @@ rowOf-row R hR i p f = go (found-cases p (suc p) R)
 pub rowOf-cases : (R : List ℕ) (j : ℕ) → (rowOf R j ≡ 0) ⊎ ((i : ℕ) × Pivot j (row R i) × (rowOf R j ≡ row R i))
 rowOf-cases R j = go (found-cases j (suc j) R)
   where
-    go : Missing j (suc j) R ⊎ Found j (suc j) R → (rowOf R j ≡ 0) ⊎ ((i : ℕ) × Pivot j (row R i) × (rowOf R j ≡ row R i))
+    go : NoPivotIn j (suc j) R ⊎ PivotIn j (suc j) R → (rowOf R j ≡ 0) ⊎ ((i : ℕ) × Pivot j (row R i) × (rowOf R j ≡ row R i))
     go (inl m) = inl (m .is)
     go (inr t) = inr (t .at, found-pivot R j t, t .is)
 

@@ -4,9 +4,8 @@ use mathlib.Core.Bool.{Bool, _&&_, not, cond}
 use mathlib.Core.List.{List, [], _∷_}
 use Prim.Native.Nat.{ℕ, suc, _+_, _/_, _%_, _^_, _≤_, _<_}
 use lib.Dec.{eqb}
-use Rattle.gf2.specs.Rows.{row}
+use Rattle.gf2.specs.Rows.{row, oneIf}
 use Rattle.gf2.specs.Reduced.{Pivot}
-use Rattle.gf2.specs.Additions.{count}
 use Rattle.images.specs.Packets.{coefficients, payload}
 
 -- the pivot of r stands in columns a to e - 1: nothing stands left of column a, something left of column e
@@ -20,7 +19,7 @@ pivotRow a e [] = 0
 pivotRow a e (r ∷ R) = cond (inside a e r) r (pivotRow a e R)
 
 -- what it is: row `at` of R, whose pivot stands there, and no row above it has one there
-pub record Found (a e : ℕ) (R : List ℕ) : Type 0 where
+pub record PivotIn (a e : ℕ) (R : List ℕ) : Type 0 where
   pub at : ℕ
   pub column : ℕ
   pub pivot : Pivot column (row R at)
@@ -30,7 +29,7 @@ pub record Found (a e : ℕ) (R : List ℕ) : Type 0 where
   pub first : (j q : ℕ) → j < at → Pivot q (row R j) → a ≤ q → q < e → ⊥
 
 -- no row has its pivot there
-pub record Missing (a e : ℕ) (R : List ℕ) : Type 0 where
+pub record NoPivotIn (a e : ℕ) (R : List ℕ) : Type 0 where
   pub is : pivotRow a e R ≡ 0
   pub none : (j q : ℕ) → Pivot q (row R j) → a ≤ q → q < e → ⊥
 
@@ -52,18 +51,18 @@ unfoldable pub content : ℕ → List ℕ → ℕ → ℕ
 unfolding pivotRow
 content n R j = payload n (pivotRow j (suc j) R)
 
--- what stands in place of an unknown block
+-- what solving shows in place of an unknown block
 abbrev pub unknownBlock : ℕ
 unknownBlock = 0
 
--- block j as it is shown, and a mark for each block: 1 where it is known
-unfoldable pub shown : ℕ → List ℕ → ℕ → ℕ
+-- block j as it is shown, where `unknown` stands in place of an unknown one; and a mark for each block: 1 where it is known
+unfoldable pub shown : ℕ → ℕ → List ℕ → ℕ → ℕ
 unfolding known content
-shown n R j = cond (known n R j) (content n R j) unknownBlock
+shown unknown n R j = cond (known n R j) (content n R j) unknown
 
 unfoldable pub mark : ℕ → List ℕ → ℕ → ℕ
 unfolding known
-mark n R j = count (known n R j)
+mark n R j = oneIf (known n R j)
 
 -- the sum of the marks, each 1 or 0: how many are set
 unfoldable pub marked : List ℕ → ℕ

@@ -1,12 +1,12 @@
 -- The bounds of an answer: they are those of the reduced matrix that it is told of, and a refused one has no rank.
-use mathlib.Core.Path.{_≡_, refl, sym, ap, _∙_, subst}
+use mathlib.Core.Path.{_≡_, sym, ap, _∙_, subst}
 use mathlib.Core.List.{List, _++_}
 use Prim.Native.Nat.{ℕ, _+_, _-_, _^_, _≤_, _<_}
 use native.Mathlib.Omega.{arith}
 use lib.ListN.{length, replicate, getD-replicate, List·getD-append}
 use lib.Seq.{getD-append-add}
 use Rattle.gf2.specs.Rows.{row}
-use Rattle.gf2.specs.Reduced.{Reduced, pivots, rank}
+use Rattle.gf2.specs.Reduced.{Reduced, pivots, rank, pivotRecord}
 use Rattle.gf2.specs.Additions.{additions}
 use Rattle.gf2.proofs.Additions.{additions-bound}
 use Rattle.gf2.proofs.Pivot.{pivot-narrow}
@@ -14,13 +14,11 @@ use Rattle.gf2.proofs.Pivots.{pivots-list, pivots-rising}
 use Rattle.gf2.proofs.Space.{same-narrow}
 use Rattle.words.specs.Words.{wordsOf, rowsOf}
 use Rattle.refusals.specs.declared.Refusal.{Refusal}
-use Rattle.refusals.specs.declared.Outcome.{Outcome}
-use Rattle.refusals.specs.declared.Outcome.the-variants.{Done, Refused}
-use Rattle.refusals.specs.Checks.{reductionChecks}
+use Rattle.refusals.specs.declared.Outcome.the-variants.{Done}
+use Rattle.refusals.proofs.Chain.{by-promise}
 use Rattle.refusals.proofs.Passed.{reduction-passed}
-use Rattle.engine.specs.Core.{pivotRecord}
 use Rattle.matrix.specs.declared.Answer.{Answer}
-use Rattle.matrix.specs.Calls.{answerOf, refusedAnswer, WithinBounds, byOutcome, reduction}
+use Rattle.matrix.specs.Calls.{answerOf, refusedAnswer, WithinBounds, reduction}
 
 pub refused-bounds : (columns k : ℕ) (x : Refusal) → WithinBounds columns k (refusedAnswer x)
 refused-bounds columns k x = record {
@@ -52,15 +50,13 @@ module _ (columns k : ℕ) (N : List ℕ) (known : ℕ) (reduced : Reduced N) (n
 -- every call of the reduction, refused or not
 module _ (rows columns k : ℕ) (m room m′ room′ : List ℕ) (r : Answer) where
   pub reduction-bounds : reduction rows columns k m room r m′ room′ → WithinBounds columns k r
-  reduction-bounds = go (reductionChecks rows columns k m (length room)) refl
-    where
-      N : List ℕ
-      N = rowsOf (wordsOf columns) rows m′
-
-      go : (o : Outcome) → reductionChecks rows columns k m (length room) ≡ o → byOutcome o rows columns k m room r m′ room′ → WithinBounds columns k r
-      go (Refused x) e a = subst (WithinBounds columns k) (sym (a .0)) (refused-bounds columns k x)
-      go Done e a =
-          let form = a .reduced in
-          let clean = reduction-passed rows columns k m (length room) e .clean in
-          let narrow = same-narrow columns (rowsOf (wordsOf columns) rows m) N (form .space) clean in
-          subst (WithinBounds columns k) (sym (a .answered)) (told-bounds columns k N 0 (form .reduced) narrow)
+  reduction-bounds p =
+      by-promise p
+      (λ x e t. subst (WithinBounds columns k) (sym (t .0)) (refused-bounds columns k x))
+      (λ e t. (
+      let form = t .0 .reduced in
+      let N : List ℕ = rowsOf (wordsOf columns) rows m′ in
+      let clean = reduction-passed rows columns k m (length room) e .clean in
+      let narrow = same-narrow columns (rowsOf (wordsOf columns) rows m) N (form .space) clean in
+      subst (WithinBounds columns k) (sym (t .0 .answered)) (told-bounds columns k N 0 (form .reduced) narrow)
+      ))

@@ -2,7 +2,9 @@
 ghost use mathlib.Core.Path.{_≡_};
 ghost use lib.ListN.{length};
 ghost use Rattle.words.specs.Words.{StandsAt};
-ghost use Rattle.matrix.specs.Calls.{rowView, rowPlace, answerOf, refusedAnswer, reduction};
+ghost use Rattle.gf2.specs.Additions.{additions};
+ghost use Rattle.refusals.specs.Checks.{ReductionPasses};
+ghost use Rattle.matrix.specs.Calls.{rowView, rowPlace, answerOf, refusedAnswer, Reduction, tableCleared, reduction};
 use refusals::Outcome;
 use refusals::Refusal;
 
@@ -24,7 +26,7 @@ pub fn row_view(m: &[u64], rows: usize, columns: usize, i: usize) -> &[u64]
     match o {
         Outcome::Refused(r) => &m[0..0],
         Outcome::Done => {
-            let w = refusals::words(columns);
+            let w = words::per_row(columns);
             let a = i * w;
             let e = a + w;
             &m[a..e]
@@ -59,19 +61,23 @@ pub fn refused(r: Refusal) -> Answer
     told(Outcome::Refused(r), 0, 0, 0, p)
 }
 
-// reduces the matrix in place, by windows of k columns, with tables in the work room
+// past the checks: reduces the matrix in place, by windows of k columns, with tables in the work room
+fn reduce_passed(m: &mut [u64], rows: usize, columns: usize, k: usize, room: &mut [u64]) -> Answer
+    requires { ⌜ ReductionPasses rows columns k (now m) (length (now room)) ⌝ }
+    ensures { λ r. ⌜ Reduction (additions k columns) rows columns (now (m .entry)) r (now (m .exit)) × tableCleared columns k (now (room .entry)) (now (room .exit)) ⌝ }
+{
+    let mut p = [65535u16; 512];
+    let e = engine::eliminate(m, room, rows, columns, k, &mut p);
+    told(Outcome::Done, e.rank, 0, e.additions, p)
+}
+
+// the checks, then the reduction
 pub fn reduce(m: &mut [u64], rows: usize, columns: usize, k: usize, room: &mut [u64]) -> Answer
     ensures { λ r. ⌜ reduction rows columns k (now (m .entry)) (now (room .entry)) r (now (m .exit)) (now (room .exit)) ⌝ }
 {
     let o = refusals::reduction(m, rows, columns, k, room.len());
     match o {
         Outcome::Refused(r) => refused(r),
-        Outcome::Done => {
-            let mut p = [65535u16; 512];
-            let e = engine::eliminate(m, room, rows, columns, k, &mut p);
-            let rank = e.rank;
-            let additions = e.additions;
-            told(Outcome::Done, rank, 0, additions, p)
-        }
+        Outcome::Done => reduce_passed(m, rows, columns, k, room),
     }
 }

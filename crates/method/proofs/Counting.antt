@@ -7,15 +7,16 @@ use native.Mathlib.Nat.{suc-mul, add-zero, zero-add}
 use native.Mathlib.Omega.{arith}
 use lib.Dec.{leb, ltb}
 use lib.ListN.{length, getD}
-use Rattle.gf2.specs.Additions.{count, within, inWindow, totalTo}
+use Rattle.gf2.specs.Rows.{oneIf}
+use Rattle.gf2.specs.Additions.{within, inWindow, totalTo}
 use Rattle.gf2.proofs.Additions.{count-in, count-left, count-right, within-none}
 
 within-append : (a e : ℕ) (ps qs : List ℕ) → within a e (ps ++ qs) ≡ within a e ps + within a e qs
 unfolding within
 within-append a e [] qs = omega arith
-within-append a e (p ∷ ps) qs = ap (λ (x : ℕ). count (leb a p && ltb p e) + x) (within-append a e ps qs) ∙ omega arith
+within-append a e (p ∷ ps) qs = ap (λ (x : ℕ). oneIf (leb a p && ltb p e) + x) (within-append a e ps qs) ∙ omega arith
 
-within-all : (a e : ℕ) (ps : List ℕ) → ((i : ℕ) → i < length ps → count (leb a (getD ps i 0) && ltb (getD ps i 0) e) ≡ 1) → within a e ps ≡ length ps
+within-all : (a e : ℕ) (ps : List ℕ) → ((i : ℕ) → i < length ps → oneIf (leb a (getD ps i 0) && ltb (getD ps i 0) e) ≡ 1) → within a e ps ≡ length ps
 unfolding within
 within-all a e [] h = refl
 within-all a e (p ∷ ps) h = rw (h 0 (omega arith), within-all a e ps (λ i l. h (suc i) (omega arith))) (omega arith)

@@ -5,3 +5,4 @@ pub mod Taking
 pub mod WindowBits
 pub mod Gray
 pub mod Counting
+pub mod Done

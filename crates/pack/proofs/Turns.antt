@@ -7,21 +7,21 @@ use native.Mathlib.Nat.{zero-add, mul-le-mul-right}
 use native.Mathlib.Omega.{arith}
 use lib.ListN.{length, take, drop, getD, length-drop, drop-of-length-le}
 use lib.Seq.{drop-drop, length-take-le}
-use Rattle.words.specs.Words.{wordsOf, Fit, rowsOf}
+use Rattle.words.specs.Words.{wordsOf, Fit, rowsOf, narrow, holdsRows}
 use Rattle.words.proofs.Value.{fit-drop}
 use Rattle.words.proofs.Rows.{rows-take}
 use Rattle.words.proofs.Flat.{flat-rows}
 use Rattle.wire.specs.Kinds.{bytesOfWords}
 use Rattle.wire.proofs.Orders.{length-words-bytes}
 use Rattle.refusals.specs.declared.Outcome.{Outcome}
-use Rattle.refusals.specs.declared.Outcome.the-variants.{Done}
-use Rattle.refusals.specs.Outcome.{outcomeNumber, _andThen_}
-use Rattle.refusals.specs.Checks.{narrow, holdsRows}
-use Rattle.refusals.proofs.Padding.{holds-narrow}
-use Rattle.refusals.proofs.Passed.{then-done, number-zero}
-use Rattle.bundle.specs.Bundle.{Entry, bodyWords, badShape, Shaped}
+use Rattle.refusals.specs.declared.Refusal.{Refusal}
+use Rattle.refusals.specs.declared.Outcome.the-variants.{Done, Refused}
+use Rattle.refusals.specs.Outcome.{_andThen_}
+use Rattle.words.proofs.Padding.{holds-narrow}
+use Rattle.refusals.proofs.Chain.{Passes, then-done}
+use Rattle.bundle.specs.Bundle.{Entry, bodyWords, badShape}
+use Rattle.refusals.specs.Checks.{Sized}
 use Rattle.bundle.proofs.Bodies.{body-same}
-use Rattle.bundle.proofs.Steps.{then-stops}
 use Rattle.bundle.proofs.Passing.{shaped}
 use Rattle.pack.specs.Encode.{headOf, contentsOf, bodyOf, bodiesOf}
 use Rattle.pack.specs.Writing.{given, shapesChecks, allWords, allNarrow}
@@ -36,7 +36,7 @@ body-small r w hr hw = omega (arith, mul-le-mul-right w hr)
 
 -- an entry whose words begin at word a of those given
 pub record Met (ws : List ℕ) (a r c : ℕ) : Type 0 where
-  pub shape : Shaped r c
+  pub shape : Sized 512 r c
   pub inside : a + bodyWords r c ≤ length ws
 
 module _ (ws : List ℕ) (a r c : ℕ) {w : ℕ} (h : a + bodyWords r c ≤ length ws) (ew : w ≡ wordsOf c) where
@@ -68,26 +68,27 @@ module _ (rule : ℕ → Outcome) (ks rs cs : List ℕ) (i : ℕ) where
   abbrev S₁ : Outcome
   S₁ = shapesChecks rule (drop (i + 1) ks) (drop (i + 1) rs) (drop (i + 1) cs)
 
-  pub shapes-end : length ks ≤ i → S ≡ Done
+  pub shapes-end : {v : Outcome} → v ≡ S → length ks ≤ i → Done ≡ v
   unfolding shapesChecks
-  shapes-end h = rw (none ks i h)
+  shapes-end e h = sym (e ∙ rw (none ks i h))
 
-  module _ (er : length rs ≡ length ks) (ec : length cs ≡ length ks) (h : i < length ks) {k r c : ℕ} (ek : k ≡ getD ks i 0) (er′ : r ≡ getD rs i 0) (ec′ : c ≡ getD cs i 0) where
+  module _ (er : length rs ≡ length ks) (ec : length cs ≡ length ks) (h : i < length ks)
+      {k r c : ℕ} (ek : k ≡ getD ks i 0) (er′ : r ≡ getD rs i 0) (ec′ : c ≡ getD cs i 0) where
     pub shapes-step : S ≡ rule k andThen badShape r c andThen S₁
     unfolding shapesChecks
     shapes-step =
         ap (λ (x : List ℕ). shapesChecks rule x (drop i rs) (drop i cs)) (next ks i k h ek)
         ∙ ap₂ (λ (x y : List ℕ). shapesChecks rule (k ∷ drop (i + 1) ks) x y) (next rs i r (omega arith) er′) (next cs i c (omega arith) ec′)
 
-    module _ {v o : Outcome} {n : ℕ} (e : v ≡ S) (eo : o ≡ rule k andThen badShape r c) (en : n ≡ outcomeNumber o) where
+    module _ {v o : Outcome} (e : v ≡ S) (eo : o ≡ rule k andThen badShape r c) where
       whole : v ≡ o andThen S₁
       whole = e ∙ shapes-step ∙ ap (λ (x : Outcome). x andThen S₁) (sym eo)
 
-      pub shapes-turn : n ≡ 0 → v ≡ S₁
-      shapes-turn z = whole ∙ ap (λ (x : Outcome). x andThen S₁) (number-zero o (sym en ∙ z))
+      pub shapes-turn : o ≡ Done → v ≡ S₁
+      shapes-turn z = whole ∙ ap (λ (x : Outcome). x andThen S₁) z
 
-      pub shapes-stop : (n ≡ 0 → ⊥) → o ≡ v
-      shapes-stop ne = then-stops o S₁ (λ z. ne (en ∙ z)) ∙ sym whole
+      pub shapes-refused : {x : Refusal} → o ≡ Refused x → Refused x ≡ v
+      shapes-refused z = sym (whole ∙ ap (λ (y : Outcome). y andThen S₁) z)
 
 -- ---- the words of all bodies
 
@@ -126,9 +127,10 @@ rest-end : (ks rs cs ws : List ℕ) (i a : ℕ) → length ks ≤ i → rest ks 
 unfolding given
 rest-end ks rs cs ws i a h = ap (λ (x : List ℕ). given x (drop i rs) (drop i cs) (drop a ws)) (none ks i h)
 
-module _ {ks rs cs ws : List ℕ} {i a : ℕ} (g : Checked ks rs cs ws) (h : i < length ks) (o : Going ks rs cs ws i a) {k r c : ℕ} (ek : k ≡ getD ks i 0) (er : r ≡ getD rs i 0) (ec : c ≡ getD cs i 0) where
-  step : (badShape r c ≡ Done) × (shapesChecks anyKind (drop (i + 1) ks) (drop (i + 1) rs) (drop (i + 1) cs) ≡ Done)
-  step = then-done (badShape r c) _ (sym (shapes-step anyKind ks rs cs i (g .rows-too) (g .columns-too) h ek er ec) ∙ o .shapes)
+module _ {ks rs cs ws : List ℕ} {i a : ℕ} (g : Checked ks rs cs ws) (h : i < length ks) (o : Going ks rs cs ws i a)
+    {r c : ℕ} (er : r ≡ getD rs i 0) (ec : c ≡ getD cs i 0) where
+  step : Passes (badShape r c) × Passes (shapesChecks anyKind (drop (i + 1) ks) (drop (i + 1) rs) (drop (i + 1) cs))
+  step = then-done (badShape r c) _ (sym (shapes-step anyKind ks rs cs i (g .rows-too) (g .columns-too) h refl er ec) ∙ o .shapes)
 
   tot : allWords (drop i rs) (drop i cs) ≡ bodyWords r c + allWords (drop (i + 1) rs) (drop (i + 1) cs)
   tot = words-step rs cs i (g .columns-too ∙ sym (g .rows-too)) (omega (arith, g .rows-too)) r c er ec
@@ -136,15 +138,19 @@ module _ {ks rs cs ws : List ℕ} {i a : ℕ} (g : Checked ks rs cs ws) (h : i <
   pub met : Met ws a r c
   met = record { shape = shaped r c (step .0); inside = omega (arith, tot, o .left) }
 
-  module _ {n : ℕ} (en : n ≡ bodyWords r c) where
-    pub going-on : Going ks rs cs ws (i + 1) (a + n)
-    going-on = record { upto = omega arith; shapes = step .1; left = omega (arith, tot, o .left, en) }
+  pub met-fits : {w : ℕ} → w ≡ wordsOf c → a + r * w ≤ length ws
+  met-fits ew = body-fits ws a r c (met .inside) ew
 
+  pub going-on : {n : ℕ} → n ≡ bodyWords r c → Going ks rs cs ws (i + 1) (a + n)
+  going-on en = record { upto = omega arith; shapes = step .1; left = omega (arith, tot, o .left, en) }
+
+  module _ {k n : ℕ} (ek : k ≡ getD ks i 0) (en : n ≡ bodyWords r c) where
     rest-step : rest ks rs cs ws i a ≡ entryOf k r c (drop a ws) ∷ rest ks rs cs ws (i + 1) (a + n)
     unfolding given
     rest-step =
         ap (λ (x : List ℕ). given x (drop i rs) (drop i cs) (drop a ws)) (next ks i k h ek)
-        ∙ ap₂ (λ (x y : List ℕ). given (k ∷ drop (i + 1) ks) x y (drop a ws)) (next rs i r (omega (arith, g .rows-too)) er) (next cs i c (omega (arith, g .columns-too)) ec)
+        ∙ ap₂ (λ (x y : List ℕ). given (k ∷ drop (i + 1) ks) x y (drop a ws))
+        (next rs i r (omega (arith, g .rows-too)) er) (next cs i c (omega (arith, g .columns-too)) ec)
         ∙ ap (λ (l : List ℕ). entryOf k r c (drop a ws) ∷ given (drop (i + 1) ks) (drop (i + 1) rs) (drop (i + 1) cs) l)
         (drop-drop (bodyWords r c) a ws ∙ ap (λ (x : ℕ). drop (a + x) ws) (sym en))
 

@@ -5,12 +5,11 @@ use mathlib.Core.List.{List, [], _∷_, _++_}
 use Prim.Native.Nat.{ℕ, _+_, _*_, _<_, _≤_}
 use lib.Dec.{eqb, ltb}
 use lib.ListN.{length, drop}
-use Rattle.words.specs.Words.{wordsOf, rowsOf}
+use Rattle.words.specs.Words.{wordsOf, rowsOf, narrow}
 use Rattle.refusals.specs.declared.Refusal.the-variants.{WrongLength, DirtyPadding, WrongBuffer, EntryCount, ShortOutput, BundleOver}
 use Rattle.refusals.specs.declared.Outcome.{Outcome}
 use Rattle.refusals.specs.declared.Outcome.the-variants as outcome
-use Rattle.refusals.specs.Outcome.{numberOf, refuseIf, _andThen_}
-use Rattle.refusals.specs.Checks.{narrow}
+use Rattle.refusals.specs.Outcome.{numberOf, refuseIf, _andThen_, first}
 use Rattle.bundle.specs.Bundle.{Entry, bodyWords, headBytes, badShape}
 use Rattle.pack.specs.Encode.{encode}
 use Rattle.pack.specs.declared.Written.{Written}
@@ -54,17 +53,27 @@ abbrev pub bundleBytes : ℕ → ℕ → ℕ
 bundleBytes n m = headBytes n + 8 * m
 
 -- past kinds and shapes: the words of all bodies together (4), their padding (5), the bundle's length (29), the output's room (28)
-unfoldable pub restChecks : List ℕ → List ℕ → List ℕ → List ℕ → ℕ → Outcome
-restChecks ks rs cs ws room =
-    refuseIf (not (eqb (length ws) (allWords rs cs))) WrongLength andThen refuseIf (not (allNarrow (given ks rs cs ws))) DirtyPadding
-    andThen refuseIf (ltb 65535 (bundleBytes (length ks) (length ws))) BundleOver andThen refuseIf (ltb room (bundleBytes (length ks) (length ws))) ShortOutput
+unfoldable pub restOrder : List ℕ → List ℕ → List ℕ → List ℕ → ℕ → List Outcome
+restOrder ks rs cs ws room =
+    refuseIf (not (eqb (length ws) (allWords rs cs))) WrongLength
+    ∷ refuseIf (not (allNarrow (given ks rs cs ws))) DirtyPadding
+    ∷ refuseIf (ltb 65535 (bundleBytes (length ks) (length ws))) BundleOver
+    ∷ refuseIf (ltb room (bundleBytes (length ks) (length ws))) ShortOutput
+    ∷ []
 
 -- lists of one length (13), from 1 to 64 entries (21), for each entry 23 and 24, then the rest
-unfoldable pub writeChecks : (ℕ → Outcome) → List ℕ → List ℕ → List ℕ → List ℕ → ℕ → Outcome
-writeChecks rule ks rs cs ws room =
-    refuseIf (not (eqb (length rs) (length ks))) WrongBuffer andThen refuseIf (not (eqb (length cs) (length ks))) WrongBuffer
-    andThen refuseIf (eqb (length ks) 0) EntryCount andThen refuseIf (ltb 64 (length ks)) EntryCount
-    andThen shapesChecks rule ks rs cs andThen restChecks ks rs cs ws room
+unfoldable pub writeOrder : (ℕ → Outcome) → List ℕ → List ℕ → List ℕ → List ℕ → ℕ → List Outcome
+writeOrder rule ks rs cs ws room =
+    refuseIf (not (eqb (length rs) (length ks))) WrongBuffer
+    ∷ refuseIf (not (eqb (length cs) (length ks))) WrongBuffer
+    ∷ refuseIf (eqb (length ks) 0) EntryCount
+    ∷ refuseIf (ltb 64 (length ks)) EntryCount
+    ∷ shapesChecks rule ks rs cs
+    ∷ first (restOrder ks rs cs ws room)
+    ∷ []
+
+abbrev pub writeChecks : (ℕ → Outcome) → List ℕ → List ℕ → List ℕ → List ℕ → ℕ → Outcome
+writeChecks rule ks rs cs ws room = first (writeOrder rule ks rs cs ws room)
 
 -- ---- what passing means
 

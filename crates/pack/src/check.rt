@@ -3,10 +3,11 @@ ghost use mathlib.Core.Path.{_≡_};
 ghost use Prim.Native.Nat.{_+_, _≤_, _<_};
 ghost use lib.ListN.{length, drop};
 ghost use Rattle.refusals.specs.declared.Outcome.the-variants.{Done};
-ghost use Rattle.refusals.specs.Checks.{narrow};
-ghost use Rattle.words.specs.Words.{wordsOf, rowsOf};
+ghost use Rattle.refusals.specs.Outcome.{first};
+ghost use Rattle.refusals.specs.Checks.{Sized};
+ghost use Rattle.words.specs.Words.{wordsOf, rowsOf, narrow};
 ghost use Rattle.bundle.specs.Bundle.{bodyWords, kindRule};
-ghost use Rattle.pack.specs.Writing.{given, shapesChecks, allWords, allNarrow, writeChecks, restChecks};
+ghost use Rattle.pack.specs.Writing.{given, shapesChecks, allWords, allNarrow, writeChecks, restOrder};
 ghost use Rattle.pack.specs.Steps.{anyKind, Checked};
 use refusals::Outcome;
 use refusals::Refusal;
@@ -26,8 +27,8 @@ fn shapes(two: Outcome, kinds: &[u16], rows: &[u16], columns: &[u16]) -> Outcome
     let mut i = 0;
     while i < kinds.len() {
         let o = bundle::ruled::shape(two, wide(kinds[i]), wide(rows[i]), wide(columns[i]));
-        if o.number() != 0 {
-            return o;
+        if let Outcome::Refused(r) = o {
+            return Outcome::Refused(r);
         }
         i += 1;
     }
@@ -38,7 +39,7 @@ fn shapes(two: Outcome, kinds: &[u16], rows: &[u16], columns: &[u16]) -> Outcome
 fn body_words(rows: u16, columns: u16) -> usize
     ensures { λ r. ⌜ (r ≡ bodyWords rows columns) × (r ≤ 67107840) ⌝ }
 {
-    wide(rows) * refusals::words(wide(columns))
+    wide(rows) * words::per_row(wide(columns))
 }
 
 // the words of all bodies: at most 64 times as many
@@ -57,11 +58,11 @@ fn all_words(rows: &[u16], columns: &[u16]) -> usize
 
 // whether no row of a body has a one past its last column
 fn part_narrow(words: &[u64], a: usize, rows: usize, columns: usize) -> bool
-    requires { ⌜ (rows ≤ 512) × (0 < columns) × (columns ≤ 1024) × (a + bodyWords rows columns ≤ length (now words)) ⌝ }
+    requires { ⌜ Sized 512 rows columns × (a + bodyWords rows columns ≤ length (now words)) ⌝ }
     ensures { λ r. ⌜ r ≡ narrow columns (rowsOf (wordsOf columns) rows (drop a (now (words .entry)))) ⌝ }
 {
-    let e = a + rows * refusals::words(columns);
-    refusals::holds(&words[a..e], rows, columns)
+    let e = a + rows * words::per_row(columns);
+    words::hold_rows(&words[a..e], rows, columns)
 }
 
 // the same of every entry
@@ -75,7 +76,7 @@ fn all_narrow(kinds: &[u16], rows: &[u16], columns: &[u16], words: &[u64]) -> bo
         let r = wide(rows[i]);
         let c = wide(columns[i]);
         if part_narrow(words, a, r, c) {
-            a += r * refusals::words(c);
+            a += r * words::per_row(c);
             i += 1;
         } else {
             return false;
@@ -87,7 +88,7 @@ fn all_narrow(kinds: &[u16], rows: &[u16], columns: &[u16], words: &[u64]) -> bo
 // past kinds and shapes: the words, their padding, the bundle's length, the output's room
 fn room_for(kinds: &[u16], rows: &[u16], columns: &[u16], words: &[u64], room: usize) -> Outcome
     requires { ⌜ (length (now rows) ≡ length (now kinds)) × (length (now columns) ≡ length (now kinds)) × (length (now kinds) ≤ 64) × (shapesChecks anyKind (now kinds) (now rows) (now columns) ≡ Done) ⌝ }
-    ensures { λ o. ⌜ o ≡ restChecks (now (kinds .entry)) (now (rows .entry)) (now (columns .entry)) (now (words .entry)) room ⌝ }
+    ensures { λ o. ⌜ o ≡ first (restOrder (now (kinds .entry)) (now (rows .entry)) (now (columns .entry)) (now (words .entry)) room) ⌝ }
 {
     let t = all_words(rows, columns);
     if words.len() != t {
@@ -130,8 +131,8 @@ pub(crate) fn all(
         return Outcome::Refused(Refusal::EntryCount);
     }
     let o = shapes(two, kinds, rows, columns);
-    if o.number() != 0 {
-        return o;
+    match o {
+        Outcome::Refused(r) => Outcome::Refused(r),
+        Outcome::Done => room_for(kinds, rows, columns, words, room),
     }
-    room_for(kinds, rows, columns, words, room)
 }

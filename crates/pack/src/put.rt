@@ -73,7 +73,7 @@ fn contents(out: &mut [u8], kinds: &[u16], rows: &[u16], columns: &[u16], words:
         let r = wide(rows[i]);
         let c = wide(columns[i]);
         head(out, 2 + 10 * i, k, r, c, start + 8 * a);
-        a += r * refusals::words(c);
+        a += r * words::per_row(c);
         i += 1;
     }
 }
@@ -87,7 +87,7 @@ fn bodies(out: &mut [u8], kinds: &[u16], rows: &[u16], columns: &[u16], words: &
     let mut i = 0;
     while i < kinds.len() {
         let k = wide(kinds[i]);
-        let n = wide(rows[i]) * refusals::words(wide(columns[i]));
+        let n = wide(rows[i]) * words::per_row(wide(columns[i]));
         body(out, start + 8 * a, k, words, a, n);
         a += n;
         i += 1;

@@ -1,6 +1,6 @@
 -- Two lists of packets, solved by two calls, whatever order, k and work room each has: a second list that holds every packet of the first keeps each block
 -- that the first made known, with its content, or is refused as contradictory; and lists of the same packets get the same answer.
-use mathlib.Core.Path.{_≡_, sym, ap, ap₂, _∙_, subst}
+use mathlib.Core.Path.{_≡_, sym, ap, ap₂, _∙_}
 use mathlib.Core.Logic.{_⊎_, inl, inr}
 use mathlib.Core.List.{List, _++_}
 use Prim.Native.Nat.{ℕ, _-_, _<_}
@@ -8,19 +8,19 @@ use native.Mathlib.Omega.{arith}
 use lib.ListN.{length, replicate}
 use Rattle.gf2.specs.Rows.{row}
 use Rattle.gf2.specs.Reduced.{pivots}
-use Rattle.gf2.specs.Additions.{tableAdditions, total}
+use Rattle.gf2.specs.Additions.{tableAdditions, total, additions}
 use Rattle.gf2.proofs.Pivots.{same-pivots}
 use Rattle.words.specs.Words.{wordsOf, rowsOf}
 use Rattle.images.specs.Packets.{Image, MeetsAll, Agreed, Among}
+use Rattle.images.specs.ReadOff.{unknownBlock}
 use Rattle.images.proofs.Meeting.{meets-among}
 use Rattle.images.proofs.Lists.{order-and-repeats}
-use Rattle.refusals.specs.declared.Outcome.{Outcome}
 use Rattle.refusals.specs.declared.Outcome.the-variants.{Done}
 use Rattle.refusals.specs.Outcome.{outcomeNumber}
 use Rattle.refusals.proofs.Passed.{solving-passed}
 use Rattle.matrix.specs.declared.Answer.{Answer}
 use Rattle.matrix.specs.Calls.{answerOf}
-use Rattle.packets.specs.Solving.{Told, Refuted, Solving, byOutcome}
+use Rattle.packets.specs.Solving.{BlocksTold, Refuted, Solving}
 use Rattle.packets.specs.Lists.{Call, packets, block, refused, answered, EndAlike}
 use Rattle.packets.proofs.Marks.{alike, one-solved, solved-alike}
 
@@ -29,8 +29,8 @@ abbrev by-pivots : ℕ → ℕ → ℕ → List ℕ → Answer
 by-pivots columns k known ps = answerOf Done (length ps) known (total tableAdditions k columns ps) (ps ++ replicate (512 - length ps) 65535)
 
 module _ {columns n : ℕ} where
-  solved-call : (c : Call columns n) → Solving (c .rows) columns n (c .k) (c .m) (c .image) (c .marks) (c .room) (c .answer) (c .m′) (c .image′) (c .marks′) (c .room′)
-  solved-call c = subst (λ (o : Outcome). byOutcome o (c .rows) columns n (c .k) (c .m) (c .image) (c .marks) (c .room) (c .answer) (c .m′) (c .image′) (c .marks′) (c .room′)) (c .passed) (c .promise)
+  solved-call : (c : Call columns n) → Solving unknownBlock (additions (c .k) columns) (c .rows) columns n (c .m) (c .image) (c .marks) (c .answer) (c .m′) (c .image′) (c .marks′)
+  solved-call c = c .promise .past (c .passed) .0
 
   abbrev reduced : Call columns n → List ℕ
   reduced c = rowsOf (wordsOf columns) (c .rows) (c .m′)
@@ -38,7 +38,7 @@ module _ {columns n : ℕ} where
   -- told or refuted
   abbrev Ended : Call columns n → Type 0
   Ended c =
-      Told columns n (c .k) (packets c) (reduced c) (c .answer) (c .image′) (c .marks′)
+      BlocksTold unknownBlock (additions (c .k) columns) columns n (packets c) (reduced c) (c .answer) (c .image′) (c .marks′)
       ⊎ Refuted columns n (packets c) (c .answer) (c .image) (c .marks) (c .image′) (c .marks′)
 
   module _ (first second : Call columns n) (among : Among (packets first) (packets second)) where

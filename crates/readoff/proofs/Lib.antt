@@ -2,7 +2,9 @@ pub mod Columns
 pub mod Lead
 pub mod Saying
 pub mod Place
+pub mod Laid
 pub mod Sides
 pub mod Fitting
 pub mod Telling
 pub mod Once
+pub mod Clean

@@ -1,26 +1,26 @@
 // What is read off a reduced matrix. Nothing here knows how it came to be reduced, and every answer is defined for matrices that are not.
 ghost use mathlib.Core.Path.{_≡_};
 ghost use mathlib.Core.Bool.{_&&_};
-ghost use mathlib.Core.List.{List, [], _∷_};
+ghost use mathlib.Core.List.{[]};
 ghost use Prim.Native.Nat.{ℕ, _+_, _*_, _/_, _%_, _^_, _≤_, _<_};
 ghost use lib.Dec.{eqb, leb, ltb};
 ghost use lib.ListN.{length, getD, set};
 ghost use lib.Seq.{paste};
-ghost use Rattle.gf2.specs.Rows.{row, part};
+ghost use Rattle.gf2.specs.Rows.{part};
 ghost use Rattle.gf2.specs.Inverse.{beginsWithIdentity, rightOf};
-ghost use Rattle.words.specs.Words.{value, rowsOf, firstWords};
+ghost use Rattle.words.specs.Words.{value, rowsOf, firstWords, flat};
 ghost use Rattle.refusals.specs.Outcome.{Decides};
-ghost use Rattle.images.specs.ReadOff.{unknownBlock, marked};
-ghost use Rattle.readoff.specs.ReadOff.{Holds, Shown, refuted, naming, halved, solving};
-ghost use Rattle.readoff.specs.Steps.{FirstIn};
+ghost use Rattle.images.specs.ReadOff.{marked};
+ghost use Rattle.readoff.specs.ReadOff.{Holds, Shown, refuted, rightRead, halved, blocksRead};
+ghost use Rattle.readoff.specs.Steps.{FirstIn, Tells};
 
 mod row;
 
-// Found: what was looked for is there, and written where a buffer is lent; Missing: it is not; Unfit: the shapes do not fit. Only Found writes
+// Present: what was looked for is there, and written where a buffer is lent; Absent: it is not; Unfit: the shapes do not fit. Only Present writes
 pub enum Reading {
     Unfit,
-    Missing,
-    Found,
+    Absent,
+    Present,
 }
 
 // Known: how many blocks are; Contradictory: a pivot stands in the payload; Unfit: the shapes do not fit. Only Known writes
@@ -30,14 +30,18 @@ pub enum Solved {
     Known(usize),
 }
 
-// whether rows of that many columns stand at the start of m, with no one past the last column
+// whether rows of that many columns stand at the start of m
 fn holds(m: &[u64], rows: usize, columns: usize) -> bool
     ensures { λ r. ⌜ Decides r (Holds rows columns (now (m .entry))) ⌝ }
 {
     if 1024 < columns {
         return false;
     }
-    refusals::holds(m, rows, columns)
+    let w = words::per_row(columns);
+    if w == 0 {
+        return true;
+    }
+    rows <= m.len() / w
 }
 
 fn stands_in(c: usize, a: usize, e: usize) -> bool
@@ -72,10 +76,10 @@ pub fn contradictory(m: &[u64], rows: usize, columns: usize, n: usize) -> Readin
     if !holds(m, rows, columns) {
         return Reading::Unfit;
     }
-    if pivot_row(m, rows, refusals::words(columns), n, columns) < rows {
-        Reading::Found
+    if pivot_row(m, rows, words::per_row(columns), n, columns) < rows {
+        Reading::Present
     } else {
-        Reading::Missing
+        Reading::Absent
     }
 }
 
@@ -88,7 +92,7 @@ pub fn named(
     e: usize,
     names: &mut [u64],
 ) -> Reading
-    ensures { λ r. ⌜ naming r rows columns a e (now (m .entry)) (now (names .entry)) (now (names .exit)) ⌝ }
+    ensures { λ r. ⌜ rightRead r rows columns a e (now (m .entry)) (now (names .entry)) (now (names .exit)) ⌝ }
 {
     if columns < e {
         return Reading::Unfit;
@@ -96,17 +100,17 @@ pub fn named(
     if !holds(m, rows, columns) {
         return Reading::Unfit;
     }
-    let v = refusals::words(columns - e);
+    let v = words::per_row(columns - e);
     if names.len() != v {
         return Reading::Unfit;
     }
-    let w = refusals::words(columns);
+    let w = words::per_row(columns);
     let i = pivot_row(m, rows, w, a, e);
     if i == rows {
-        return Reading::Missing;
+        return Reading::Absent;
     }
     row::take_from(names, 0, v, m, i * w, w, e);
-    Reading::Found
+    Reading::Present
 }
 
 // whether the only one in the row's first n columns is in column j
@@ -148,18 +152,18 @@ pub fn right_half(m: &[u64], n: usize, result: &mut [u64]) -> Reading
     if !holds(m, n, n + n) {
         return Reading::Unfit;
     }
-    let w = refusals::words(n + n);
+    let w = words::per_row(n + n);
     if !begins_with_identity(m, n, w) {
-        return Reading::Missing;
+        return Reading::Absent;
     }
-    right(m, n, w, refusals::words(n), result);
-    Reading::Found
+    right(m, n, w, words::per_row(n), result);
+    Reading::Present
 }
 
 // the columns from n on of n rows
 fn right(m: &[u64], n: usize, w: usize, v: usize, result: &mut [u64])
-    requires { ⌜ (n * w ≤ length (now m)) × (n * v ≤ length (now result)) × (v ≤ 16) × (n ≤ 1024) × ((i : ℕ) → row (rowsOf w n (now m)) i / 2 ^ n < 2 ^ (64 * v)) ⌝ }
-    ensures { λ _. ⌜ rowsOf v n (now (result .exit)) ≡ rightOf n (rowsOf w n (now (m .entry))) ⌝ }
+    requires { ⌜ (n * w ≤ length (now m)) × (length (now result) ≡ n * v) × (v ≤ 16) × (n ≤ 1024) ⌝ }
+    ensures { λ _. ⌜ now (result .exit) ≡ flat v (rightOf n (rowsOf w n (now (m .entry)))) ⌝ }
 {
     let mut i = 0;
     while i < n {
@@ -168,23 +172,32 @@ fn right(m: &[u64], n: usize, w: usize, v: usize, result: &mut [u64])
     }
 }
 
-// block j is not known: zeros stand in its place
-fn unknown(image: &mut [u64], marks: &mut [u8], j: usize, v: usize)
-    requires { ⌜ (j * v + v ≤ length (now image)) × (j < length (now marks)) ⌝ }
-    ensures { λ _. ⌜ (now (image .exit) ≡ paste (now (image .entry)) (j * v) (firstWords v unknownBlock) v) × (now (marks .exit) ≡ set (now (marks .entry)) j 0) ⌝ }
+// block j is not known: the words of an unknown block stand in its place
+fn set_unknown(unknown: &[u64], image: &mut [u64], marks: &mut [u8], j: usize, v: usize)
+    requires { ⌜ (v ≤ length (now unknown)) × (j * v + v ≤ length (now image)) × (j < length (now marks)) ⌝ }
+    ensures { λ _. ⌜ (now (image .exit) ≡ paste (now (image .entry)) (j * v) (firstWords v (value (now (unknown .entry)))) v) × (now (marks .exit) ≡ set (now (marks .entry)) j 0) ⌝ }
 {
     let mut l = 0;
     while l < v {
-        image[j * v + l] = 0;
+        image[j * v + l] = unknown[l];
         l += 1;
     }
     marks[j] = 0;
 }
 
 // what row i says of the block of its pivot
-fn tell(m: &[u64], i: usize, w: usize, n: usize, v: usize, image: &mut [u64], marks: &mut [u8])
-    requires { ⌜ (i * w + w ≤ length (now m)) × (w ≤ 16) × (n ≤ 64 * w) × (v ≤ 16) × (n * v ≤ length (now image)) × (length (now marks) ≡ n) × (value (part (i * w) w (now m)) / 2 ^ n < 2 ^ (64 * v)) ⌝ }
-    ensures { λ _. ⌜ ((R : List ℕ) → Shown n v R (now (image .entry)) (now (marks .entry)) → Shown n v (value (part (i * w) w (now (m .entry))) ∷ R) (now (image .exit)) (now (marks .exit))) ⌝ }
+fn tell(
+    m: &[u64],
+    i: usize,
+    w: usize,
+    n: usize,
+    v: usize,
+    unknown: &[u64],
+    image: &mut [u64],
+    marks: &mut [u8],
+)
+    requires { ⌜ (i * w + w ≤ length (now m)) × (w ≤ 16) × (n ≤ 64 * w) × (v ≤ 16) × (v ≤ length (now unknown)) × (length (now image) ≡ n * v) × (length (now marks) ≡ n) ⌝ }
+    ensures { λ _. ⌜ Tells (value (now (unknown .entry))) n v (value (part (i * w) w (now (m .entry)))) (now (image .entry)) (now (marks .entry)) (now (image .exit)) (now (marks .exit)) ⌝ }
 {
     let at = i * w;
     let j = row::next_one(m, at, w, 0);
@@ -192,7 +205,7 @@ fn tell(m: &[u64], i: usize, w: usize, n: usize, v: usize, image: &mut [u64], ma
         return;
     }
     if row::next_one(m, at, w, j + 1) < n {
-        unknown(image, marks, j, v);
+        set_unknown(unknown, image, marks, j, v);
         return;
     }
     row::take_from(image, j * v, v, m, at, w, n);
@@ -200,19 +213,19 @@ fn tell(m: &[u64], i: usize, w: usize, n: usize, v: usize, image: &mut [u64], ma
 }
 
 // at first no block is known
-fn blank(n: usize, v: usize, image: &mut [u64], marks: &mut [u8])
-    requires { ⌜ (n * v ≤ length (now image)) × (length (now marks) ≡ n) ⌝ }
-    ensures { λ _. ⌜ Shown n v [] (now (image .exit)) (now (marks .exit)) ⌝ }
+fn none_known(n: usize, v: usize, unknown: &[u64], image: &mut [u64], marks: &mut [u8])
+    requires { ⌜ (v ≤ length (now unknown)) × (length (now image) ≡ n * v) × (length (now marks) ≡ n) ⌝ }
+    ensures { λ _. ⌜ Shown (value (now (unknown .entry))) n v [] (now (image .exit)) (now (marks .exit)) ⌝ }
 {
     let mut j = 0;
     while j < n {
-        unknown(image, marks, j, v);
+        set_unknown(unknown, image, marks, j, v);
         j += 1;
     }
 }
 
 // how many marks are set
-fn count(marks: &[u8]) -> usize
+fn marks_set(marks: &[u8]) -> usize
     requires { ⌜ ((j : ℕ) → getD (now marks) j 0 ≤ 1) ⌝ }
     ensures { λ x. ⌜ x ≡ marked (now (marks .entry)) ⌝ }
 {
@@ -233,37 +246,44 @@ fn blocks(
     w: usize,
     n: usize,
     v: usize,
+    unknown: &[u64],
     image: &mut [u64],
     marks: &mut [u8],
 ) -> usize
-    requires { ⌜ (rows * w ≤ length (now m)) × (w ≤ 16) × (n ≤ 64 * w) × (v ≤ 16) × (n * v ≤ length (now image)) × (length (now marks) ≡ n) × ((i : ℕ) → row (rowsOf w rows (now m)) i / 2 ^ n < 2 ^ (64 * v)) ⌝ }
-    ensures { λ x. ⌜ Shown n v (rowsOf w rows (now (m .entry))) (now (image .exit)) (now (marks .exit)) × (x ≡ marked (now (marks .exit))) ⌝ }
+    requires { ⌜ (rows * w ≤ length (now m)) × (w ≤ 16) × (n ≤ 64 * w) × (v ≤ 16) × (v ≤ length (now unknown)) × (length (now image) ≡ n * v) × (length (now marks) ≡ n) ⌝ }
+    ensures { λ x. ⌜ Shown (value (now (unknown .entry))) n v (rowsOf w rows (now (m .entry))) (now (image .exit)) (now (marks .exit)) × (x ≡ marked (now (marks .exit))) ⌝ }
 {
-    blank(n, v, image, marks);
+    none_known(n, v, unknown, image, marks);
     // from the last row to the first, so that of two rows with one pivot column the first counts
     let mut i = rows;
     while 0 < i {
         i -= 1;
-        tell(m, i, w, n, v, image, marks);
+        tell(m, i, w, n, v, unknown, image, marks);
     }
-    count(marks)
+    marks_set(marks)
 }
 
-// the blocks that the reduced packets make known, and their marks; nothing is written where the packets are contradictory
+// the blocks that the reduced packets make known, and their marks, with the words of `unknown` in place of every other block; nothing is written where the
+// packets are contradictory
 pub fn solution(
     m: &[u64],
     rows: usize,
     columns: usize,
     n: usize,
+    unknown: &[u64],
     image: &mut [u64],
     marks: &mut [u8],
 ) -> Solved
-    ensures { λ r. ⌜ solving r rows columns n (now (m .entry)) (now (image .entry)) (now (marks .entry)) (now (image .exit)) (now (marks .exit)) ⌝ }
+    ensures { λ r. ⌜ blocksRead r rows columns n (now (m .entry)) (now (unknown .entry)) (now (image .entry)) (now (marks .entry)) (now (image .exit)) (now (marks .exit)) ⌝ }
 {
     if columns < n {
         return Solved::Unfit;
     }
     let p = columns - n;
+    let v = words::per_row(p);
+    if unknown.len() < v {
+        return Solved::Unfit;
+    }
     let o = refusals::wrong_buffer(n, p, image.len()).and_then(refusals::wrong_marks(
         n,
         marks.len(),
@@ -274,13 +294,14 @@ pub fn solution(
     let c = contradictory(m, rows, columns, n);
     match c {
         Reading::Unfit => Solved::Unfit,
-        Reading::Found => Solved::Contradictory,
-        Reading::Missing => Solved::Known(blocks(
+        Reading::Present => Solved::Contradictory,
+        Reading::Absent => Solved::Known(blocks(
             m,
             rows,
-            refusals::words(columns),
+            words::per_row(columns),
             n,
-            refusals::words(p),
+            v,
+            unknown,
             image,
             marks,
         )),

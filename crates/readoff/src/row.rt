@@ -13,11 +13,11 @@ fn columns_from(m: &[u64], at: usize, w: usize, c: usize) -> u64
 {
     let l = c / 64;
     let s = c % 64;
-    let low = refusals::word(m, at, w, l) >> s;
+    let low = words::word(m, at, w, l) >> s;
     if s == 0 {
         return low;
     }
-    low | (refusals::word(m, at, w, l + 1) << (64 - s))
+    low | (words::word(m, at, w, l + 1) << (64 - s))
 }
 
 // the dw words from place `to` of d on become the row's columns from c on

@@ -2,13 +2,13 @@
 use mathlib.Core.Path.{_≡_, refl, sym, ap, ap₂, _∙_, subst}
 use mathlib.Core.Logic.{_≢_}
 use mathlib.Core.Bool.{Bool, true, _&&_}
-use mathlib.Core.List.{List, [], _∷_, _++_, append-assoc}
-use Prim.Native.Nat.{ℕ, zero, suc, _*_, _^_, _<_, _≤_}
+use mathlib.Core.List.{List, _++_}
+use Prim.Native.Nat.{ℕ, _*_, _^_, _<_, _≤_}
 use native.Mathlib.Nat.{lt-of-lt-of-le, mul-le-mul-right, le-trans}
 use native.Mathlib.Omega.{arith}
 use lib.Pow.{pow-mono}
 use lib.ListN.{length, take, drop, length-append}
-use lib.Seq.{take-at, drop-at, getD-take}
+use lib.Seq.{getD-take}
 use borrow.Author.Tests.{le-leb}
 use Rattle.gf2.specs.Rows.{row}
 use Rattle.gf2.specs.Reduced.{Reduced, rank}
@@ -17,38 +17,25 @@ use Rattle.gf2.specs.Rref.{rref}
 use Rattle.gf2.proofs.Space.{same-narrow}
 use Rattle.gf2.proofs.Rref.{rref-form}
 use Rattle.gf2.proofs.Pivots.{rank-used, rank-le}
-use Rattle.words.specs.Words.{value, wordsOf, rowsOf, firstWords, flat}
-use Rattle.words.proofs.First.{length-first, value-first}
-use Rattle.words.proofs.Flat.{length-flat}
+use Rattle.words.specs.Words.{wordsOf, rowsOf, flat}
+use Rattle.words.proofs.Flat.{length-flat, rows-first}
 use Rattle.refusals.specs.declared.Refusal.{Refusal}
 use Rattle.refusals.specs.declared.Outcome.the-variants.{Done}
 use Rattle.bundle.specs.Bundle.{Entry, bodyWords, countOf, bothKinds, bundleChecks, entryAt, meaning}
-use Rattle.bundle.specs.Answers.{Found, found, find}
+use Rattle.bundle.specs.Answers.{Lookup, found, find}
 use Rattle.bundle.proofs.Meaning.{find-entry}
 use Rattle.desk.specs.declared.EntryReduced.{EntryReduced}
 use Rattle.desk.specs.declared.EntryReduced.the-variants as answer
-use Rattle.desk.specs.Desk.{window, tableRows, reducedOf, roomFor, reducedBy, reducedFound, reducedEntry}
+use Rattle.desk.specs.Desk.{windowColumns, tableRows, reducedOf, roomFor, reducedBy, reducedFound, reducedEntry}
 use Rattle.desk.proofs.Sound.{Sound, found-sound}
 use Rattle.text.specs.Put.{Put}
 use Rattle.text.proofs.Putting.{put-then}
 use Rattle.reduce.specs.Report.{entryLine, rowLines, entryText}
 use Rattle.reduce.proofs.Lines.{lines-whole}
 
--- the first rows of a matrix, found again where its words begin
-rows-first : (w k : ℕ) (R rest : List ℕ) → k ≤ length R → ((i : ℕ) → row R i < 2 ^ (64 * w)) → rowsOf w k (flat w R ++ rest) ≡ take k R
-unfolding rowsOf flat
-rows-first w zero R rest h f = refl
-rows-first w (suc k) [] rest h f = absurd (omega arith)
-rows-first w (suc k) (v ∷ R) rest h f =
-    let e : (firstWords w v ++ flat w R) ++ rest ≡ firstWords w v ++ (flat w R ++ rest) = append-assoc (firstWords w v) (flat w R) rest in
-    ap (λ (m : List ℕ). value (take w m) ∷ rowsOf w k (drop w m)) e
-    ∙ ap₂ (λ (x : ℕ) (L : List ℕ). x ∷ L)
-    (ap value (take-at (firstWords w v) (flat w R ++ rest) w (length-first w v)) ∙ value-first w v (f 0))
-    (ap (rowsOf w k) (drop-at (firstWords w v) (flat w R ++ rest) w (length-first w v)) ∙ rows-first w k R rest (omega arith) (λ i. f (suc i)))
-
 -- what has been told of an entry, and what the words then hold
 pub record Shown (e : Entry) (t : EntryReduced) (words′ : List ℕ) : Type 0 where
-  pub says : t ≡ answer.Entry (e .rows) (e .columns) (rank (rref (e .matrix))) (additions window (e .columns) (rref (e .matrix)))
+  pub says : t ≡ answer.Figures (e .rows) (e .columns) (rank (rref (e .matrix))) (additions windowColumns (e .columns) (rref (e .matrix)))
   pub reduced : Reduced (rref (e .matrix))
   pub inside : rank (rref (e .matrix)) * wordsOf (e .columns) ≤ length words′
   pub first : rowsOf (wordsOf (e .columns)) (rank (rref (e .matrix))) words′ ≡ take (rank (rref (e .matrix))) (rref (e .matrix))
@@ -92,7 +79,7 @@ entry-shown i b words room t words′ room′ d h hw hr r =
     let s : Sound (entryAt i b) = found-sound bothKinds i b (entryAt i b) f in
     let q : reducedBy true (entryAt i b) words room t words′ room′ =
     subst (λ (x : Bool). reducedBy x (entryAt i b) words room t words′ room′) (room-enough (entryAt i b) s words room hw hr)
-    (subst (λ (F : Found). reducedFound F words room t words′ room′) f r) in
+    (subst (λ (F : Lookup). reducedFound F words room t words′ room′) f r) in
     shown (entryAt i b) s words words′ t (q .0) (q .1)
 
 -- the rows that are then shown are not zero
@@ -105,18 +92,18 @@ not-zero e t words′ s i h z =
 module _ (e : Entry) (t : EntryReduced) (words′ : List ℕ) (s : Shown e t words′) where
   pub found-not-refused : (x : Refusal) → t ≡ answer.Refused x → ⊥
   found-not-refused x q =
-      let y : t ≡ answer.Entry (e .rows) (e .columns) (rank (rref (e .matrix))) (additions window (e .columns) (rref (e .matrix))) = s .says in
+      let y : t ≡ answer.Figures (e .rows) (e .columns) (rank (rref (e .matrix))) (additions windowColumns (e .columns) (rref (e .matrix))) = s .says in
       let z : _≡_ {A = ℕ} 0 1 = cc in
       omega arith
 
   pub found-not-unfit : t ≡ answer.Unfit → ⊥
   found-not-unfit q =
-      let y : t ≡ answer.Entry (e .rows) (e .columns) (rank (rref (e .matrix))) (additions window (e .columns) (rref (e .matrix))) = s .says in
+      let y : t ≡ answer.Figures (e .rows) (e .columns) (rank (rref (e .matrix))) (additions windowColumns (e .columns) (rref (e .matrix))) = s .says in
       let z : _≡_ {A = ℕ} 0 1 = cc in
       omega arith
 
-  module _ (rows columns n added : ℕ) (q : t ≡ answer.Entry rows columns n added) where
-    same : answer.Entry (e .rows) (e .columns) (rank (rref (e .matrix))) (additions window (e .columns) (rref (e .matrix))) ≡ answer.Entry rows columns n added
+  module _ (rows columns n added : ℕ) (q : t ≡ answer.Figures rows columns n added) where
+    same : answer.Figures (e .rows) (e .columns) (rank (rref (e .matrix))) (additions windowColumns (e .columns) (rref (e .matrix))) ≡ answer.Figures rows columns n added
     same = sym (s .says) ∙ q
 
     er : e .rows ≡ rows
@@ -128,7 +115,7 @@ module _ (e : Entry) (t : EntryReduced) (words′ : List ℕ) (s : Shown e t wor
     en : rank (rref (e .matrix)) ≡ n
     en = let y = same in cc
 
-    ea : additions window (e .columns) (rref (e .matrix)) ≡ added
+    ea : additions windowColumns (e .columns) (rref (e .matrix)) ≡ added
     ea = let y = same in cc
 
     pub rows-lent : (n * wordsOf columns ≤ length words′) × ((i : ℕ) → i < n → row (rowsOf (wordsOf columns) n words′) i ≢ 0)
@@ -141,7 +128,7 @@ module _ (e : Entry) (t : EntryReduced) (words′ : List ℕ) (s : Shown e t wor
     lines =
         ap₂ (λ (x k : ℕ). rowLines x (rowsOf (wordsOf x) k words′)) (sym ec) (sym en) ∙ ap (rowLines (e .columns)) (s .first) ∙ lines-whole (e .columns) (rref (e .matrix)) (s .reduced)
 
-    line : (i : ℕ) → entryLine i rows columns n added ≡ entryLine i (e .rows) (e .columns) (rank (rref (e .matrix))) (additions window (e .columns) (rref (e .matrix)))
+    line : (i : ℕ) → entryLine i rows columns n added ≡ entryLine i (e .rows) (e .columns) (rank (rref (e .matrix))) (additions windowColumns (e .columns) (rref (e .matrix)))
     line i =
         ap₂ (λ (x y : ℕ). entryLine i x y n added) (sym er) (sym ec) ∙ ap₂ (entryLine i (e .rows) (e .columns)) (sym en) (sym ea)
 

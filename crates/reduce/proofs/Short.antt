@@ -15,13 +15,14 @@ use Rattle.words.specs.Words.{wordsOf}
 use Rattle.refusals.specs.declared.Outcome.{Outcome}
 use Rattle.refusals.specs.declared.Outcome.the-variants.{Done, Refused}
 use Rattle.refusals.specs.Outcome.{numberOf}
-use Rattle.bundle.specs.Bundle.{Entry, bodyWords, headBytes, countOf, wordsIn, bothKinds, entriesChecks, bundleChecks, entryAt, entriesFrom, entriesOf, meantBy, meaning, Shaped, Accepted}
+use Rattle.refusals.specs.Checks.{Sized}
+use Rattle.bundle.specs.Bundle.{Entry, bodyWords, headBytes, countOf, wordsIn, bothKinds, entriesChecks, bundleChecks, entryAt, entriesFrom, entriesOf, meantBy, meaning, Accepted}
 use Rattle.bundle.proofs.Passing.{entries-step, entries-end, accepted}
 use Rattle.bundle.proofs.Bodies.{length-matrix}
 use Rattle.text.specs.Text.{ascii, newline, shortest, decimal, bits}
 use Rattle.text.specs.Put.{Put}
 use Rattle.text.proofs.Putting.{put-all}
-use Rattle.desk.specs.Desk.{window, refusedText}
+use Rattle.desk.specs.Desk.{windowColumns, refusedText}
 use Rattle.reduce.specs.Report.{entryLine, rowLines, entryText, entriesText, meaningText, report}
 
 length-shortest : (d n : ℕ) → length (shortest d n) ≤ d
@@ -71,7 +72,7 @@ length-line i rows columns ranked added =
     sum ha hb hc hd he p q r s t = omega arith
 
 -- an entry takes no more than 65 bytes for each of its words, beside its line
-length-entry : (i : ℕ) (e : Entry) → length (e .matrix) ≡ e .rows → Shaped (e .rows) (e .columns) → length (entryText i e (rref (e .matrix))) ≤ 139 + 65 * bodyWords (e .rows) (e .columns)
+length-entry : (i : ℕ) (e : Entry) → length (e .matrix) ≡ e .rows → Sized 512 (e .rows) (e .columns) → length (entryText i e (rref (e .matrix))) ≤ 139 + 65 * bodyWords (e .rows) (e .columns)
 unfolding entryText bodyWords
 length-entry i e sized s =
     let R : List ℕ = rref (e .matrix) in
@@ -83,8 +84,8 @@ length-entry i e sized s =
     subst (λ (n : ℕ). e .rows * (e .columns + 1) ≤ n) (sym (mul-assoc (e .rows) 65 w) ∙ ap (λ (n : ℕ). n * w) (mul-comm (e .rows) 65) ∙ mul-assoc 65 (e .rows) w) (mul-le-mul-left (e .rows) narrow) in
     omega (
       arith,
-      length-append (entryLine i (e .rows) (e .columns) (rank R) (additions window (e .columns) R)) (rowLines (e .columns) R),
-      length-line i (e .rows) (e .columns) (rank R) (additions window (e .columns) R),
+      length-append (entryLine i (e .rows) (e .columns) (rank R) (additions windowColumns (e .columns) R)) (rowLines (e .columns) R),
+      length-line i (e .rows) (e .columns) (rank R) (additions windowColumns (e .columns) R),
       lines,
       wide,
     )

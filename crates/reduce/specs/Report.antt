@@ -9,7 +9,7 @@ use Rattle.gf2.specs.Additions.{additions}
 use Rattle.gf2.specs.Rref.{rref}
 use Rattle.bundle.specs.Bundle.{Entry, Meaning, refused, bundle, bothKinds, meaning}
 use Rattle.text.specs.Text.{ascii, newline, decimal, bits}
-use Rattle.desk.specs.Desk.{window, refusedText}
+use Rattle.desk.specs.Desk.{windowColumns, refusedText}
 
 -- the line that opens entry i
 unfoldable pub entryLine : ℕ → ℕ → ℕ → ℕ → ℕ → List ℕ
@@ -24,7 +24,7 @@ rowLines columns (v ∷ R) = cond (eqb v 0) (rowLines columns R) (bits columns v
 
 -- an entry whose reduced form is R
 unfoldable pub entryText : ℕ → Entry → List ℕ → List ℕ
-entryText i e R = entryLine i (e .rows) (e .columns) (rank R) (additions window (e .columns) R) ++ rowLines (e .columns) R
+entryText i e R = entryLine i (e .rows) (e .columns) (rank R) (additions windowColumns (e .columns) R) ++ rowLines (e .columns) R
 
 -- the entries, counted from i
 unfoldable pub entriesText : ℕ → List Entry → List ℕ

@@ -48,7 +48,7 @@ fn row_lines(out: &mut [u8], p: usize, words: &[u64], n: usize, columns: usize) 
     requires { ⌜ ((i : ℕ) → i < n → row (rowsOf (wordsOf columns) n (now words)) i ≢ 0) × (n * wordsOf columns ≤ length (now words)) × (p ≤ length (now out)) ⌝ }
     ensures { λ r. ⌜ Put p (rowLines columns (rowsOf (wordsOf columns) n (now (words .entry)))) (now (out .entry)) r (now (out .exit)) ⌝ }
 {
-    let w = refusals::words(columns);
+    let w = words::per_row(columns);
     let mut q = p;
     let mut i = 0;
     while i < n {
@@ -78,7 +78,7 @@ fn entry(
         // neither can be: the bundle has been read, and the buffers are long enough for every entry
         EntryReduced::Refused(_) => p,
         EntryReduced::Unfit => p,
-        EntryReduced::Entry {
+        EntryReduced::Figures {
             rows,
             columns,
             rank,

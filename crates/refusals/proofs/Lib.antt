@@ -1,4 +1,4 @@
 pub mod Division
-pub mod Padding
+pub mod Chain
 pub mod Passed
 pub mod Never

@@ -7,13 +7,14 @@ use Prim.Native.Nat.{ℕ, _+_, _-_, _*_, _^_, _≤_, _<_}
 use native.Mathlib.Omega.{arith}
 use lib.Dec.{eqb, ltb, leb, lit<}
 use lib.ListN.{length}
-use Rattle.words.specs.Words.{wordsOf}
+use Rattle.words.specs.Words.{wordsOf, holdsRows}
 use Rattle.refusals.specs.declared.Refusal.{Refusal}
 use Rattle.refusals.specs.declared.Refusal.the-variants.{TooManyRows, BadColumns, BadK, WrongLength, DirtyPadding, ShortRoom, BadBlocks, NotSquare, NoInverse, Contradictory, WrongBuffer}
 use Rattle.refusals.specs.declared.Outcome.{Outcome}
 use Rattle.refusals.specs.declared.Outcome.the-variants.{Done, Refused}
-use Rattle.refusals.specs.Outcome.{numberOf, outcomeNumber, refuseIf, _andThen_}
-use Rattle.refusals.specs.Checks.{tooManyRows, badColumns, badK, wrongLength, shortRoom, badBlocks, notSquare, wrongBuffer, wrongMarks, holdsRows, dirtyPadding, inverseChecks, solvingChecks}
+use Rattle.refusals.specs.Outcome.{numberOf, outcomeNumber, refuseIf, _andThen_, first}
+use Rattle.refusals.specs.Checks.{tooManyRows, badColumns, sizeChecks, badK, wrongLength, shortRoom, badBlocks, notSquare, wrongBuffer, wrongMarks, dirtyPadding, inverseShapes, inverseOrder, inverseChecks, solvingShapes, solvingOrder, solvingChecks}
+use Rattle.refusals.proofs.Chain.{Each, chain}
 
 -- the outcome is not this refusal
 abbrev pub Never : Refusal → Outcome → Type 0
@@ -32,54 +33,67 @@ module _ (r : Refusal) (from : 8 < numberOf r) (to : numberOf r < 11) where
       let z : 0 ≡ numberOf r = ap outcomeNumber e in
       omega (arith, from, z)
 
-  -- nor is it that of checks in order
-  infixl 30 _nor_
-  _nor_ : {o p : Outcome} → Never r o → Never r p → Never r (o andThen p)
-  _nor_ {o} {p} a b = go o a
+  nor : {o p : Outcome} → Never r o → Never r p → Never r (o andThen p)
+  nor {o} {p} a b = go o a
     where
       go : (q : Outcome) → Never r q → Never r (q andThen p)
       go Done h = b
       go (Refused x) h = h
 
-  few : (rows : ℕ) → Never r (tooManyRows rows)
-  few rows = not-if (ltb 512 rows) TooManyRows (inl (lit< tt))
+  -- nor is it that of checks in order
+  none-of : (os : List Outcome) → Each (Never r) os (Never r (first os))
+  none-of = chain (Never r) (λ o p. nor {o = o} {p = p}) (λ e. let z : 0 ≡ numberOf r = ap outcomeNumber e in omega (arith, from, z))
 
-  columned : (columns : ℕ) → Never r (badColumns columns)
-  columned columns = not-if (eqb columns 0) BadColumns (inl (lit< tt)) nor not-if (ltb 1024 columns) BadColumns (inl (lit< tt))
+  not-sizes : (rows columns : ℕ) → Never r (sizeChecks rows columns)
+  unfolding sizeChecks tooManyRows badColumns
+  not-sizes rows columns =
+      nor (not-if (ltb 512 rows) TooManyRows (inl (lit< tt))) (nor (not-if (eqb columns 0) BadColumns (inl (lit< tt))) (not-if (ltb 1024 columns) BadColumns (inl (lit< tt))))
 
-  windowed : (k : ℕ) → Never r (badK k)
-  windowed k = not-if (eqb k 0) BadK (inl (lit< tt)) nor not-if (ltb 8 k) BadK (inl (lit< tt))
+  not-k : (k : ℕ) → Never r (badK k)
+  unfolding badK
+  not-k k = nor (not-if (eqb k 0) BadK (inl (lit< tt))) (not-if (ltb 8 k) BadK (inl (lit< tt)))
 
-  blocked : (n columns : ℕ) → Never r (badBlocks n columns)
-  blocked n columns = not-if (eqb n 0) BadBlocks (inl (lit< tt)) nor not-if (leb columns n) BadBlocks (inl (lit< tt))
+  not-blocks : (n columns : ℕ) → Never r (badBlocks n columns)
+  unfolding badBlocks
+  not-blocks n columns = nor (not-if (eqb n 0) BadBlocks (inl (lit< tt))) (not-if (leb columns n) BadBlocks (inl (lit< tt)))
 
-  square : (rows columns : ℕ) → Never r (notSquare rows columns)
-  square rows columns = not-if (not (eqb rows columns)) NotSquare (inl (lit< tt))
+  not-uneven : (rows columns : ℕ) → Never r (notSquare rows columns)
+  unfolding notSquare
+  not-uneven rows columns = not-if (not (eqb rows columns)) NotSquare (inl (lit< tt))
 
-  exact : (rows columns len : ℕ) → Never r (wrongLength rows columns len)
-  exact rows columns len = not-if (not (eqb len (rows * wordsOf columns))) WrongLength (inl (lit< tt))
+  not-length : (rows columns len : ℕ) → Never r (wrongLength rows columns len)
+  unfolding wrongLength
+  not-length rows columns len = not-if (not (eqb len (rows * wordsOf columns))) WrongLength (inl (lit< tt))
 
-  fitting : (rows columns len : ℕ) → Never r (wrongBuffer rows columns len)
-  fitting rows columns len = not-if (not (eqb len (rows * wordsOf columns))) WrongBuffer (inr (lit< tt))
+  not-buffer : (rows columns len : ℕ) → Never r (wrongBuffer rows columns len)
+  unfolding wrongBuffer
+  not-buffer rows columns len = not-if (not (eqb len (rows * wordsOf columns))) WrongBuffer (inr (lit< tt))
 
-  marked : (n len : ℕ) → Never r (wrongMarks n len)
-  marked n len = not-if (not (eqb len n)) WrongBuffer (inr (lit< tt))
+  not-marks : (n len : ℕ) → Never r (wrongMarks n len)
+  unfolding wrongMarks
+  not-marks n len = not-if (not (eqb len n)) WrongBuffer (inr (lit< tt))
 
-  roomy : (more k columns room : ℕ) → Never r (shortRoom more k columns room)
-  roomy more k columns room = not-if (ltb room ((more + 2 ^ k) * wordsOf columns)) ShortRoom (inl (lit< tt))
+  not-room : (more k columns room : ℕ) → Never r (shortRoom more k columns room)
+  unfolding shortRoom
+  not-room more k columns room = not-if (ltb room ((more + 2 ^ k) * wordsOf columns)) ShortRoom (inl (lit< tt))
 
-  clean : (rows columns : ℕ) (m : List ℕ) → Never r (dirtyPadding rows columns m)
-  clean rows columns m = not-if (not (holdsRows rows columns m)) DirtyPadding (inl (lit< tt))
+  not-padding : (rows columns : ℕ) (m : List ℕ) → Never r (dirtyPadding rows columns m)
+  unfolding dirtyPadding
+  not-padding rows columns m = not-if (not (holdsRows rows columns m)) DirtyPadding (inl (lit< tt))
 
   not-inverse : (rows columns k : ℕ) (m : List ℕ) (result room : ℕ) → Never r (inverseChecks rows columns k m result room)
   not-inverse rows columns k m result room =
-      few rows nor columned columns nor square rows columns nor windowed k nor exact rows columns (length m) nor fitting rows columns result
-      nor roomy rows k (rows + columns) room nor clean rows columns m
+      none-of (inverseOrder rows columns k m result room)
+      (none-of (inverseShapes rows columns k (length m) result)
+      (not-sizes rows columns) (not-uneven rows columns) (not-k k) (not-length rows columns (length m)) (not-buffer rows columns result))
+      (not-room rows k (rows + columns) room) (not-padding rows columns m)
 
   not-solving : (rows columns n k : ℕ) (m : List ℕ) (image marks room : ℕ) → Never r (solvingChecks rows columns n k m image marks room)
   not-solving rows columns n k m image marks room =
-      few rows nor columned columns nor blocked n columns nor windowed k nor exact rows columns (length m) nor fitting n (columns - n) image
-      nor marked n marks nor roomy 0 k columns room nor clean rows columns m
+      none-of (solvingOrder rows columns n k m image marks room)
+      (none-of (solvingShapes rows columns n k (length m) image marks)
+      (not-sizes rows columns) (not-blocks n columns) (not-k k) (not-length rows columns (length m)) (not-buffer n (columns - n) image) (not-marks n marks))
+      (not-room 0 k columns room) (not-padding rows columns m)
 
 pub inverse-never : (rows columns k : ℕ) (m : List ℕ) (result room : ℕ) → Never NoInverse (inverseChecks rows columns k m result room)
 inverse-never = not-inverse NoInverse (lit< tt) (lit< tt)

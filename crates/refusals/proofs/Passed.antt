@@ -1,23 +1,24 @@
 -- What the checks say: they refuse nothing exactly if each of their conditions fails.
-use mathlib.Core.Path.{_≡_, refl, sym, ap, ap₂, _∙_, subst}
-use mathlib.Core.Bool.{Bool, true, false, not, _&&_}
+use mathlib.Core.Path.{_≡_, refl, sym, ap, _∙_, subst}
+use mathlib.Core.Bool.{Bool, true, false, not}
 use mathlib.Core.List.{List}
 use Prim.Native.Nat.{ℕ, _+_, _-_, _*_, _^_, _≤_, _<_}
 use native.Mathlib.Nat.{zero-add, one-mul}
 use native.Mathlib.Omega.{arith}
-use borrow.Author.Tests.{ltb-false, eqb-false, eqb-true, leb-false, le-ltb, lt-leb, le-leb, eq-eqb, ne-eqb}
+use borrow.Author.Tests.{ltb-false, eqb-false, eqb-true, leb-false, le-ltb, lt-leb, eq-eqb, ne-eqb}
 pub use borrow.Author.Tests.{not-false}
 use lib.Dec.{eqb, ltb, leb, lit<}
 use lib.ListN.{length}
-use Rattle.gf2.specs.Rows.{row}
-use Rattle.words.specs.Words.{wordsOf, rowsOf}
+use Rattle.words.specs.Words.{wordsOf, Clean, holdsRows}
+use Rattle.words.proofs.Padding.{holds-exactly}
 use Rattle.refusals.specs.declared.Refusal.{Refusal}
 use Rattle.refusals.specs.declared.Refusal.the-variants.{TooManyRows, BadColumns, BadK, WrongLength, DirtyPadding, ShortRoom, BadBlocks, NotSquare, NoInverse, Contradictory, TooWide, NotBelow, WrongBuffer, BundleSize, EntryCount, ContentsCut, BadKind, BadShape, WrongOffset, BodyPast, BytesLeft, ShortOutput, BundleOver}
 use Rattle.refusals.specs.declared.Outcome.{Outcome}
 use Rattle.refusals.specs.declared.Outcome.the-variants.{Done, Refused}
-use Rattle.refusals.specs.Outcome.{numberOf, outcomeNumber, refuseIf, Decides, _andThen_}
-use Rattle.refusals.specs.Checks.{tooManyRows, badColumns, badK, wrongLength, shortRoom, notBelow, narrow, holdsRows, dirtyPadding, badBlocks, notSquare, tooWide, wrongBuffer, wrongMarks, viewChecks, reductionChecks, inverseShape, inverseChecks, solvingChecks, contradictionShape, contradictionChecks, ReductionPasses, ViewPasses, InversePasses, SolvingPasses, ContradictionPasses}
-use Rattle.refusals.proofs.Padding.{narrow-all, narrow-row}
+use Rattle.refusals.specs.Outcome.{numberOf, outcomeNumber, refuseIf, Decides, _andThen_, first}
+use Rattle.refusals.specs.Checks.{tooManyRows, badColumns, sizeChecks, badK, wrongLength, shortRoom, notBelow, dirtyPadding, badBlocks, notSquare, tooWide, wrongBuffer, wrongMarks, viewOrder, viewChecks, reductionOrder, reductionChecks, inverseShapes, inverseOrder, inverseChecks, solvingShapes, solvingOrder, solvingChecks, contradictionShapes, contradictionOrder, contradictionChecks, Sized, Window, Parted, ViewPasses, ReductionPasses, InversePasses, SolvingPasses, ContradictionPasses}
+use Rattle.refusals.proofs.Chain.{Passes, passing, passed}
+pub use Rattle.refusals.proofs.Chain.{refused-not, then-done, done-then}
 
 -- ---- numbers
 
@@ -51,32 +52,22 @@ pub number-zero : (o : Outcome) → outcomeNumber o ≡ 0 → o ≡ Done
 number-zero Done e = refl
 number-zero (Refused r) e = absurd (omega (arith, number-pos r))
 
--- ---- one check, and checks in order
+-- ---- one check, and what stands behind it
 
-pub refused-not : {r : Refusal} → Refused r ≡ Done → ⊥
-refused-not {r} e = let z : _≡_ {A = ℕ} 0 1 = cc in omega arith
-
-pub if-done : (b : Bool) (r : Refusal) → refuseIf b r ≡ Done → b ≡ false
+pub if-done : (b : Bool) (r : Refusal) → Passes (refuseIf b r) → b ≡ false
 if-done true r e = absurd (refused-not e)
 if-done false r e = refl
 
-pub done-if : {b : Bool} (r : Refusal) → b ≡ false → refuseIf b r ≡ Done
+pub done-if : {b : Bool} (r : Refusal) → b ≡ false → Passes (refuseIf b r)
 done-if r e = ap (λ (b : Bool). refuseIf b r) e
 
-pub then-done : (o p : Outcome) → o andThen p ≡ Done → (o ≡ Done) × (p ≡ Done)
-then-done Done p e = (refl, e)
-then-done (Refused r) p e = absurd (refused-not e)
-
-pub done-then : {o p : Outcome} → o ≡ Done → p ≡ Done → o andThen p ≡ Done
-done-then e f = ap₂ _andThen_ e f
-
 -- two checks more, behind those whose outcome is known
-module _ (o p q : Outcome) where
-  pub stays-refused : {r : Refusal} → o ≡ Refused r → Refused r ≡ o andThen p andThen q
-  stays-refused e = sym (ap (λ (x : Outcome). x andThen p andThen q) e)
+module _ {c : Outcome} (o p q : Outcome) (e : o ≡ c) where
+  pub stays-refused : {r : Refusal} → o ≡ Refused r → Refused r ≡ c andThen p andThen q
+  stays-refused f = sym (ap (λ (x : Outcome). x andThen p andThen q) (sym e ∙ f))
 
-  pub goes-on : o ≡ Done → p andThen q ≡ o andThen p andThen q
-  goes-on e = sym (ap (λ (x : Outcome). x andThen p andThen q) e)
+  pub goes-on : {x : Outcome} → o ≡ Done → x ≡ p andThen q → x ≡ c andThen p andThen q
+  goes-on f g = g ∙ sym (ap (λ (x : Outcome). x andThen p andThen q) (sym e ∙ f))
 
 -- what a test decides
 module _ {A : Type 0} (b : Bool) (d : Decides b A) where
@@ -89,254 +80,277 @@ module _ {A : Type 0} (b : Bool) (d : Decides b A) where
 pub pos : {n : ℕ} → (n ≡ 0 → ⊥) → 0 < n
 pos h = omega arith
 
--- ---- the checks of shape
+-- ---- the checks of numbers
 
-few-done : (rows : ℕ) → tooManyRows rows ≡ Done → rows ≤ 512
+few-done : (rows : ℕ) → Passes (tooManyRows rows) → rows ≤ 512
+unfolding tooManyRows
 few-done rows e = ltb-false 512 rows (if-done (ltb 512 rows) _ e)
 
-done-few : (rows : ℕ) → rows ≤ 512 → tooManyRows rows ≡ Done
+done-few : (rows : ℕ) → rows ≤ 512 → Passes (tooManyRows rows)
+unfolding tooManyRows
 done-few rows h = done-if _ (le-ltb 512 rows h)
 
-pub columns-done : (columns : ℕ) → badColumns columns ≡ Done → (0 < columns) × (columns ≤ 1024)
+pub columns-done : (columns : ℕ) → Passes (badColumns columns) → (0 < columns) × (columns ≤ 1024)
+unfolding badColumns
 columns-done columns e =
     let t = then-done (refuseIf (eqb columns 0) _) (refuseIf (ltb 1024 columns) _) e in
     (pos (eqb-false columns 0 (if-done (eqb columns 0) _ (t .0))), ltb-false 1024 columns (if-done (ltb 1024 columns) _ (t .1)))
 
-pub done-columns : (columns : ℕ) → 0 < columns → columns ≤ 1024 → badColumns columns ≡ Done
+pub done-columns : (columns : ℕ) → 0 < columns → columns ≤ 1024 → Passes (badColumns columns)
+unfolding badColumns
 done-columns columns h l = done-then (done-if _ (ne-eqb columns 0 (λ e. omega arith))) (done-if _ (le-ltb 1024 columns l))
 
-pub k-done : (k : ℕ) → badK k ≡ Done → (0 < k) × (k ≤ 8)
-k-done k e =
+pub sizes-done : (rows columns : ℕ) → Passes (sizeChecks rows columns) → Sized 512 rows columns
+unfolding sizeChecks
+sizes-done rows columns e =
+    let t = then-done (tooManyRows rows) (badColumns columns) e in
+    let c = columns-done columns (t .1) in
+    record { few = few-done rows (t .0); some = c .0; wide = c .1 }
+
+pub done-sizes : (rows columns : ℕ) → Sized 512 rows columns → Passes (sizeChecks rows columns)
+unfolding sizeChecks
+done-sizes rows columns s = done-then (done-few rows (s .few)) (done-columns columns (s .some) (s .wide))
+
+pub window-done : (k : ℕ) → Passes (badK k) → Window k
+unfolding badK
+window-done k e =
     let t = then-done (refuseIf (eqb k 0) _) (refuseIf (ltb 8 k) _) e in
-    (pos (eqb-false k 0 (if-done (eqb k 0) _ (t .0))), ltb-false 8 k (if-done (ltb 8 k) _ (t .1)))
+    record { least = pos (eqb-false k 0 (if-done (eqb k 0) _ (t .0))); most = ltb-false 8 k (if-done (ltb 8 k) _ (t .1)) }
 
-pub done-k : (k : ℕ) → 0 < k → k ≤ 8 → badK k ≡ Done
-done-k k h l = done-then (done-if _ (ne-eqb k 0 (λ e. omega arith))) (done-if _ (le-ltb 8 k l))
+pub done-window : (k : ℕ) → Window k → Passes (badK k)
+unfolding badK
+done-window k w = done-then (done-if _ (ne-eqb k 0 (λ e. omega (arith, w .least)))) (done-if _ (le-ltb 8 k (w .most)))
 
-blocks-done : (n columns : ℕ) → badBlocks n columns ≡ Done → (0 < n) × (n < columns)
-blocks-done n columns e =
+parted-done : (n columns : ℕ) → Passes (badBlocks n columns) → Parted n columns
+unfolding badBlocks
+parted-done n columns e =
     let t = then-done (refuseIf (eqb n 0) _) (refuseIf (leb columns n) _) e in
-    (pos (eqb-false n 0 (if-done (eqb n 0) _ (t .0))), leb-false columns n (if-done (leb columns n) _ (t .1)))
+    record { block = pos (eqb-false n 0 (if-done (eqb n 0) _ (t .0))); payload = leb-false columns n (if-done (leb columns n) _ (t .1)) }
 
-done-blocks : (n columns : ℕ) → 0 < n → n < columns → badBlocks n columns ≡ Done
-done-blocks n columns h l = done-then (done-if _ (ne-eqb n 0 (λ e. omega arith))) (done-if _ (lt-leb columns n l))
+done-parted : (n columns : ℕ) → Parted n columns → Passes (badBlocks n columns)
+unfolding badBlocks
+done-parted n columns p = done-then (done-if _ (ne-eqb n 0 (λ e. omega (arith, p .block)))) (done-if _ (lt-leb columns n (p .payload)))
+
+pub wide-done : (columns packets : ℕ) → Passes (tooWide columns packets) → columns + packets ≤ 1024
+unfolding tooWide
+wide-done columns packets e = ltb-false 1024 (columns + packets) (if-done (ltb 1024 (columns + packets)) _ e)
+
+pub done-wide : (columns packets : ℕ) → columns + packets ≤ 1024 → Passes (tooWide columns packets)
+unfolding tooWide
+done-wide columns packets h = done-if TooWide (le-ltb 1024 (columns + packets) h)
+
+below-done : (i count : ℕ) → Passes (notBelow i count) → i < count
+unfolding notBelow
+below-done i count e = leb-false count i (if-done (leb count i) _ e)
+
+done-below : (i count : ℕ) → i < count → Passes (notBelow i count)
+unfolding notBelow
+done-below i count h = done-if _ (lt-leb count i h)
+
+-- ---- the checks of lengths
 
 -- two numbers that must be equal
-pub same-done : (r : Refusal) (a b : ℕ) → refuseIf (not (eqb a b)) r ≡ Done → a ≡ b
+pub same-done : (r : Refusal) (a b : ℕ) → Passes (refuseIf (not (eqb a b)) r) → a ≡ b
 same-done r a b e = eqb-true a b (not-false (eqb a b) (if-done (not (eqb a b)) r e))
 
-pub done-same : (r : Refusal) (a b : ℕ) → a ≡ b → refuseIf (not (eqb a b)) r ≡ Done
+pub done-same : (r : Refusal) (a b : ℕ) → a ≡ b → Passes (refuseIf (not (eqb a b)) r)
 done-same r a b h = done-if r (ap not (eq-eqb a b h))
 
-room-done : (more k columns room : ℕ) → shortRoom more k columns room ≡ Done → (more + 2 ^ k) * wordsOf columns ≤ room
+square-done : (rows columns : ℕ) → Passes (notSquare rows columns) → rows ≡ columns
+unfolding notSquare
+square-done rows columns e = same-done NotSquare rows columns e
+
+done-square : (rows columns : ℕ) → rows ≡ columns → Passes (notSquare rows columns)
+unfolding notSquare
+done-square rows columns h = done-same NotSquare rows columns h
+
+exact-done : (rows columns len : ℕ) → Passes (wrongLength rows columns len) → len ≡ rows * wordsOf columns
+unfolding wrongLength
+exact-done rows columns len e = same-done WrongLength len (rows * wordsOf columns) e
+
+done-exact : (rows columns len : ℕ) → len ≡ rows * wordsOf columns → Passes (wrongLength rows columns len)
+unfolding wrongLength
+done-exact rows columns len h = done-same WrongLength len (rows * wordsOf columns) h
+
+buffer-done : (rows columns len : ℕ) → Passes (wrongBuffer rows columns len) → len ≡ rows * wordsOf columns
+unfolding wrongBuffer
+buffer-done rows columns len e = same-done WrongBuffer len (rows * wordsOf columns) e
+
+done-buffer : (rows columns len : ℕ) → len ≡ rows * wordsOf columns → Passes (wrongBuffer rows columns len)
+unfolding wrongBuffer
+done-buffer rows columns len h = done-same WrongBuffer len (rows * wordsOf columns) h
+
+marks-done : (n len : ℕ) → Passes (wrongMarks n len) → len ≡ n
+unfolding wrongMarks
+marks-done n len e = same-done WrongBuffer len n e
+
+done-marks : (n len : ℕ) → len ≡ n → Passes (wrongMarks n len)
+unfolding wrongMarks
+done-marks n len h = done-same WrongBuffer len n h
+
+pub room-done : (more k columns room : ℕ) → Passes (shortRoom more k columns room) → (more + 2 ^ k) * wordsOf columns ≤ room
+unfolding shortRoom
 room-done more k columns room e = ltb-false room ((more + 2 ^ k) * wordsOf columns) (if-done (ltb room ((more + 2 ^ k) * wordsOf columns)) _ e)
 
-done-room : (more k columns room : ℕ) → (more + 2 ^ k) * wordsOf columns ≤ room → shortRoom more k columns room ≡ Done
+pub done-room : (more k columns room : ℕ) → (more + 2 ^ k) * wordsOf columns ≤ room → Passes (shortRoom more k columns room)
+unfolding shortRoom
 done-room more k columns room h = done-if _ (le-ltb room ((more + 2 ^ k) * wordsOf columns) h)
 
+-- a room for the table alone
 table-only : (k w : ℕ) → (0 + 2 ^ k) * w ≡ 2 ^ k * w
 table-only k w = ap (λ (x : ℕ). x * w) (zero-add (2 ^ k))
 
-module _ (rows columns : ℕ) (m : List ℕ) (exact : length m ≡ rows * wordsOf columns) where
-  padding-done : dirtyPadding rows columns m ≡ Done → (i : ℕ) → row (rowsOf (wordsOf columns) rows m) i < 2 ^ columns
-  padding-done e =
-      let holds : holdsRows rows columns m ≡ true = not-false (holdsRows rows columns m) (if-done (not (holdsRows rows columns m)) _ e) in
-      narrow-row columns (rowsOf (wordsOf columns) rows m)
-      (sym (ap (λ (b : Bool). b && narrow columns (rowsOf (wordsOf columns) rows m)) (le-leb (rows * wordsOf columns) (length m) (omega arith))) ∙ holds)
+table-done : (k columns room : ℕ) → Passes (shortRoom 0 k columns room) → 2 ^ k * wordsOf columns ≤ room
+table-done k columns room e = omega (arith, table-only k (wordsOf columns), room-done 0 k columns room e)
 
-  done-padding : ((i : ℕ) → row (rowsOf (wordsOf columns) rows m) i < 2 ^ columns) → dirtyPadding rows columns m ≡ Done
-  done-padding h =
-      done-if _ (ap not (ap₂ _&&_ (le-leb (rows * wordsOf columns) (length m) (omega arith)) (sym (narrow-all columns (rowsOf (wordsOf columns) rows m) (λ i l. h i)))))
+done-table : (k columns room : ℕ) → 2 ^ k * wordsOf columns ≤ room → Passes (shortRoom 0 k columns room)
+done-table k columns room h = done-room 0 k columns room (omega (arith, table-only k (wordsOf columns), h))
+
+-- words for one row
+line-done : (columns len : ℕ) → Passes (wrongBuffer 1 columns len) → len ≡ wordsOf columns
+line-done columns len e = buffer-done 1 columns len e ∙ one-mul (wordsOf columns)
+
+done-line : (columns len : ℕ) → len ≡ wordsOf columns → Passes (wrongBuffer 1 columns len)
+done-line columns len h = done-buffer 1 columns len (h ∙ sym (one-mul (wordsOf columns)))
+
+-- ---- the padding, where the length is right
+
+module _ (rows columns : ℕ) (m : List ℕ) where
+  clean-done : Passes (dirtyPadding rows columns m) → Clean rows columns m
+  unfolding dirtyPadding
+  clean-done e = holds-exactly rows columns m .0 (not-false (holdsRows rows columns m) (if-done (not (holdsRows rows columns m)) _ e)) .1
+
+  done-clean : length m ≡ rows * wordsOf columns → Clean rows columns m → Passes (dirtyPadding rows columns m)
+  unfolding dirtyPadding
+  done-clean exact h = done-if _ (ap not (holds-exactly rows columns m .1 (omega arith, h)))
 
 -- ---- the calls
 
-module _ (rows columns k : ℕ) (m : List ℕ) (room : ℕ) where
-  pub reduction-passed : reductionChecks rows columns k m room ≡ Done → ReductionPasses rows columns k m room
-  reduction-passed e =
-      let t₅ = then-done (tooManyRows rows andThen badColumns columns andThen badK k andThen wrongLength rows columns (length m) andThen shortRoom 0 k columns room) (dirtyPadding rows columns m) e in
-      let t₄ = then-done (tooManyRows rows andThen badColumns columns andThen badK k andThen wrongLength rows columns (length m)) (shortRoom 0 k columns room) (t₅ .0) in
-      let t₃ = then-done (tooManyRows rows andThen badColumns columns andThen badK k) (wrongLength rows columns (length m)) (t₄ .0) in
-      let t₂ = then-done (tooManyRows rows andThen badColumns columns) (badK k) (t₃ .0) in
-      let t₁ = then-done (tooManyRows rows) (badColumns columns) (t₂ .0) in
-      let exact = same-done WrongLength (length m) (rows * wordsOf columns) (t₃ .1) in
-      record {
-        few = few-done rows (t₁ .0);
-        some = columns-done columns (t₁ .1) .0;
-        wide = columns-done columns (t₁ .1) .1;
-        least = k-done k (t₂ .1) .0;
-        most = k-done k (t₂ .1) .1;
-        exact = exact;
-        roomy = omega (arith, table-only k (wordsOf columns), room-done 0 k columns room (t₄ .1));
-        clean = padding-done rows columns m exact (t₅ .1);
-      }
-
-  pub passes-reduction : ReductionPasses rows columns k m room → reductionChecks rows columns k m room ≡ Done
-  passes-reduction p =
-      done-then (done-then (done-then (done-then (done-then (done-few rows (p .few)) (done-columns columns (p .some) (p .wide))) (done-k k (p .least) (p .most))) (done-same WrongLength (length m) (rows * wordsOf columns) (p .exact)))
-      (done-room 0 k columns room (omega (arith, table-only k (wordsOf columns), p .roomy))))
-      (done-padding rows columns m (p .exact) (p .clean))
-
 module _ (rows columns len i : ℕ) where
-  pub view-passed : viewChecks rows columns len i ≡ Done → ViewPasses rows columns len i
-  view-passed e =
-      let t₃ = then-done (tooManyRows rows andThen badColumns columns andThen wrongLength rows columns len) (notBelow i rows) e in
-      let t₂ = then-done (tooManyRows rows andThen badColumns columns) (wrongLength rows columns len) (t₃ .0) in
-      let t₁ = then-done (tooManyRows rows) (badColumns columns) (t₂ .0) in
-      record {
-        few = few-done rows (t₁ .0);
-        some = columns-done columns (t₁ .1) .0;
-        wide = columns-done columns (t₁ .1) .1;
-        exact = same-done WrongLength len (rows * wordsOf columns) (t₂ .1);
-        below = leb-false rows i (if-done (leb rows i) _ (t₃ .1));
-      }
+  pub view-passed : Passes (viewChecks rows columns len i) → ViewPasses rows columns len i
+  view-passed =
+      passed (viewOrder rows columns len i) (λ sizes exact below. record {
+        sized = sizes-done rows columns sizes;
+        exact = exact-done rows columns len exact;
+        below = below-done i rows below;
+      })
 
-  pub passes-view : ViewPasses rows columns len i → viewChecks rows columns len i ≡ Done
+  pub passes-view : ViewPasses rows columns len i → Passes (viewChecks rows columns len i)
   passes-view p =
-      done-then (done-then (done-then (done-few rows (p .few)) (done-columns columns (p .some) (p .wide))) (done-same WrongLength len (rows * wordsOf columns) (p .exact))) (done-if _ (lt-leb rows i (p .below)))
+      passing (viewOrder rows columns len i)
+      (done-sizes rows columns (p .sized))
+      (done-exact rows columns len (p .exact))
+      (done-below i rows (p .below))
+
+module _ (rows columns k : ℕ) (m : List ℕ) (room : ℕ) where
+  pub reduction-passed : Passes (reductionChecks rows columns k m room) → ReductionPasses rows columns k m room
+  reduction-passed =
+      passed (reductionOrder rows columns k m room) (λ sizes window exact short clean. record {
+        sized = sizes-done rows columns sizes;
+        window = window-done k window;
+        exact = exact-done rows columns (length m) exact;
+        roomy = table-done k columns room short;
+        clean = clean-done rows columns m clean;
+      })
+
+  pub passes-reduction : ReductionPasses rows columns k m room → Passes (reductionChecks rows columns k m room)
+  passes-reduction p =
+      passing (reductionOrder rows columns k m room)
+      (done-sizes rows columns (p .sized))
+      (done-window k (p .window))
+      (done-exact rows columns (length m) (p .exact))
+      (done-table k columns room (p .roomy))
+      (done-clean rows columns m (p .exact) (p .clean))
+
+module _ (rows columns k : ℕ) (m : List ℕ) (result room : ℕ) where
+  pub inverse-passed : Passes (inverseChecks rows columns k m result room) → InversePasses rows columns k m result room
+  inverse-passed =
+      passed (inverseOrder rows columns k m result room) (λ shapes short clean.
+      passed (inverseShapes rows columns k (length m) result) (λ sizes square window exact buffer. record {
+        sized = sizes-done rows columns sizes;
+        square = square-done rows columns square;
+        window = window-done k window;
+        exact = exact-done rows columns (length m) exact;
+        fitting = buffer-done rows columns result buffer;
+        roomy = room-done rows k (rows + columns) room short;
+        clean = clean-done rows columns m clean;
+      }) shapes)
+
+  pub passes-inverse : InversePasses rows columns k m result room → Passes (inverseChecks rows columns k m result room)
+  passes-inverse p =
+      passing (inverseOrder rows columns k m result room)
+      (passing (inverseShapes rows columns k (length m) result)
+      (done-sizes rows columns (p .sized))
+      (done-square rows columns (p .square))
+      (done-window k (p .window))
+      (done-exact rows columns (length m) (p .exact))
+      (done-buffer rows columns result (p .fitting)))
+      (done-room rows k (rows + columns) room (p .roomy))
+      (done-clean rows columns m (p .exact) (p .clean))
+
+module _ (rows columns n k : ℕ) (m : List ℕ) (image marks room : ℕ) where
+  pub solving-passed : Passes (solvingChecks rows columns n k m image marks room) → SolvingPasses rows columns n k m image marks room
+  solving-passed =
+      passed (solvingOrder rows columns n k m image marks room) (λ shapes short clean.
+      passed (solvingShapes rows columns n k (length m) image marks) (λ sizes blocks window exact buffer marked. record {
+        sized = sizes-done rows columns sizes;
+        parted = parted-done n columns blocks;
+        window = window-done k window;
+        exact = exact-done rows columns (length m) exact;
+        fitting = buffer-done n (columns - n) image buffer;
+        marked = marks-done n marks marked;
+        roomy = table-done k columns room short;
+        clean = clean-done rows columns m clean;
+      }) shapes)
+
+  pub passes-solving : SolvingPasses rows columns n k m image marks room → Passes (solvingChecks rows columns n k m image marks room)
+  passes-solving p =
+      passing (solvingOrder rows columns n k m image marks room)
+      (passing (solvingShapes rows columns n k (length m) image marks)
+      (done-sizes rows columns (p .sized))
+      (done-parted n columns (p .parted))
+      (done-window k (p .window))
+      (done-exact rows columns (length m) (p .exact))
+      (done-buffer n (columns - n) image (p .fitting))
+      (done-marks n marks (p .marked)))
+      (done-table k columns room (p .roomy))
+      (done-clean rows columns m (p .exact) (p .clean))
+
+module _ (rows columns n k : ℕ) (m : List ℕ) (named room : ℕ) where
+  pub contradiction-passed : Passes (contradictionChecks rows columns n k m named room) → ContradictionPasses rows columns n k m named room
+  contradiction-passed =
+      passed (contradictionOrder rows columns n k m named room) (λ shapes short clean.
+      passed (contradictionShapes rows columns n k (length m) named) (λ sizes blocks wide window exact line. record {
+        sized = sizes-done rows columns sizes;
+        parted = parted-done n columns blocks;
+        wide = wide-done columns rows wide;
+        window = window-done k window;
+        exact = exact-done rows columns (length m) exact;
+        fitting = line-done rows named line;
+        roomy = room-done rows k (columns + rows) room short;
+        clean = clean-done rows columns m clean;
+      }) shapes)
+
+  pub passes-contradiction : ContradictionPasses rows columns n k m named room → Passes (contradictionChecks rows columns n k m named room)
+  passes-contradiction p =
+      passing (contradictionOrder rows columns n k m named room)
+      (passing (contradictionShapes rows columns n k (length m) named)
+      (done-sizes rows columns (p .sized))
+      (done-parted n columns (p .parted))
+      (done-wide columns rows (p .wide))
+      (done-window k (p .window))
+      (done-exact rows columns (length m) (p .exact))
+      (done-line rows named (p .fitting)))
+      (done-room rows k (columns + rows) room (p .roomy))
+      (done-clean rows columns m (p .exact) (p .clean))
 
 -- ---- after the checks of numbers and lengths the room's width can be added up
 
-small : (rows columns : ℕ) → tooManyRows rows andThen badColumns columns ≡ Done → rows + columns ≤ 1536
-small rows columns e =
-    let t = then-done (tooManyRows rows) (badColumns columns) e in
-    omega (arith, few-done rows (t .0), columns-done columns (t .1) .1)
+pub inverse-small : (rows columns k len result : ℕ) (o : Outcome) → o ≡ first (inverseShapes rows columns k len result) → Passes o → rows + columns ≤ 1536
+inverse-small rows columns k len result o e f =
+    passed (inverseShapes rows columns k len result) (λ sizes square window exact buffer. let s = sizes-done rows columns sizes in omega (arith, s .few, s .wide)) (sym e ∙ f)
 
-pub inverse-small : (rows columns k len result : ℕ) → inverseShape rows columns k len result ≡ Done → rows + columns ≤ 1536
-inverse-small rows columns k len result e =
-    let a₁ = tooManyRows rows andThen badColumns columns in
-    let a₂ = a₁ andThen notSquare rows columns in
-    let a₃ = a₂ andThen badK k in
-    let a₄ = a₃ andThen wrongLength rows columns len in
-    small rows columns
-    (then-done a₁ (notSquare rows columns) (then-done a₂ (badK k) (then-done a₃ (wrongLength rows columns len) (then-done a₄ (wrongBuffer rows columns result) e .0) .0) .0) .0)
-
-pub contradiction-small : (rows columns n k len named : ℕ) → contradictionShape rows columns n k len named ≡ Done → columns + rows ≤ 1536
-contradiction-small rows columns n k len named e =
-    let a₁ = tooManyRows rows andThen badColumns columns in
-    let a₂ = a₁ andThen badBlocks n columns in
-    let a₃ = a₂ andThen tooWide columns rows in
-    let a₄ = a₃ andThen badK k in
-    let a₅ = a₄ andThen wrongLength rows columns len in
-    let s =
-    small rows columns
-    (then-done a₁ (badBlocks n columns)
-    (then-done a₂ (tooWide columns rows) (then-done a₃ (badK k) (then-done a₄ (wrongLength rows columns len) (then-done a₅ (wrongBuffer 1 rows named) e .0) .0) .0) .0) .0) in
-    omega (arith, s)
-
--- ---- the calls that solve, invert, and show a contradiction
-
-module _ (rows columns k : ℕ) (m : List ℕ) (result room : ℕ) where
-  pub inverse-passed : inverseChecks rows columns k m result room ≡ Done → InversePasses rows columns k m result room
-  inverse-passed e =
-      let a₁ = tooManyRows rows andThen badColumns columns in
-      let a₂ = a₁ andThen notSquare rows columns in
-      let a₃ = a₂ andThen badK k in
-      let a₄ = a₃ andThen wrongLength rows columns (length m) in
-      let a₅ = a₄ andThen wrongBuffer rows columns result in
-      let a₆ = a₅ andThen shortRoom rows k (rows + columns) room in
-      let t₇ = then-done a₆ (dirtyPadding rows columns m) e in
-      let t₆ = then-done a₅ (shortRoom rows k (rows + columns) room) (t₇ .0) in
-      let t₅ = then-done a₄ (wrongBuffer rows columns result) (t₆ .0) in
-      let t₄ = then-done a₃ (wrongLength rows columns (length m)) (t₅ .0) in
-      let t₃ = then-done a₂ (badK k) (t₄ .0) in
-      let t₂ = then-done a₁ (notSquare rows columns) (t₃ .0) in
-      let t₁ = then-done (tooManyRows rows) (badColumns columns) (t₂ .0) in
-      let exact = same-done WrongLength (length m) (rows * wordsOf columns) (t₄ .1) in
-      record {
-        few = few-done rows (t₁ .0);
-        some = columns-done columns (t₁ .1) .0;
-        square = same-done NotSquare rows columns (t₂ .1);
-        least = k-done k (t₃ .1) .0;
-        most = k-done k (t₃ .1) .1;
-        exact = exact;
-        fitting = same-done WrongBuffer result (rows * wordsOf columns) (t₅ .1);
-        roomy = room-done rows k (rows + columns) room (t₆ .1);
-        clean = padding-done rows columns m exact (t₇ .1);
-      }
-
-  pub passes-inverse : InversePasses rows columns k m result room → inverseChecks rows columns k m result room ≡ Done
-  passes-inverse p =
-      done-then (done-then (done-then (done-then (done-then (done-then (done-then (done-few rows (p .few)) (done-columns columns (p .some) (omega (arith, p .few, p .square))))
-      (done-same NotSquare rows columns (p .square))) (done-k k (p .least) (p .most))) (done-same WrongLength (length m) (rows * wordsOf columns) (p .exact)))
-      (done-same WrongBuffer result (rows * wordsOf columns) (p .fitting))) (done-room rows k (rows + columns) room (p .roomy)))
-      (done-padding rows columns m (p .exact) (p .clean))
-
-module _ (rows columns n k : ℕ) (m : List ℕ) (image marks room : ℕ) where
-  pub solving-passed : solvingChecks rows columns n k m image marks room ≡ Done → SolvingPasses rows columns n k m image marks room
-  solving-passed e =
-      let a₁ = tooManyRows rows andThen badColumns columns in
-      let a₂ = a₁ andThen badBlocks n columns in
-      let a₃ = a₂ andThen badK k in
-      let a₄ = a₃ andThen wrongLength rows columns (length m) in
-      let a₅ = a₄ andThen wrongBuffer n (columns - n) image in
-      let a₆ = a₅ andThen wrongMarks n marks in
-      let a₇ = a₆ andThen shortRoom 0 k columns room in
-      let t₈ = then-done a₇ (dirtyPadding rows columns m) e in
-      let t₇ = then-done a₆ (shortRoom 0 k columns room) (t₈ .0) in
-      let t₆ = then-done a₅ (wrongMarks n marks) (t₇ .0) in
-      let t₅ = then-done a₄ (wrongBuffer n (columns - n) image) (t₆ .0) in
-      let t₄ = then-done a₃ (wrongLength rows columns (length m)) (t₅ .0) in
-      let t₃ = then-done a₂ (badK k) (t₄ .0) in
-      let t₂ = then-done a₁ (badBlocks n columns) (t₃ .0) in
-      let t₁ = then-done (tooManyRows rows) (badColumns columns) (t₂ .0) in
-      let exact = same-done WrongLength (length m) (rows * wordsOf columns) (t₄ .1) in
-      record {
-        few = few-done rows (t₁ .0);
-        wide = columns-done columns (t₁ .1) .1;
-        block = blocks-done n columns (t₂ .1) .0;
-        payload = blocks-done n columns (t₂ .1) .1;
-        least = k-done k (t₃ .1) .0;
-        most = k-done k (t₃ .1) .1;
-        exact = exact;
-        fitting = same-done WrongBuffer image (n * wordsOf (columns - n)) (t₅ .1);
-        marked = same-done WrongBuffer marks n (t₆ .1);
-        roomy = omega (arith, table-only k (wordsOf columns), room-done 0 k columns room (t₇ .1));
-        clean = padding-done rows columns m exact (t₈ .1);
-      }
-
-  pub passes-solving : SolvingPasses rows columns n k m image marks room → solvingChecks rows columns n k m image marks room ≡ Done
-  passes-solving p =
-      done-then (done-then (done-then (done-then (done-then (done-then (done-then (done-then (done-few rows (p .few)) (done-columns columns (omega (arith, p .payload)) (p .wide)))
-      (done-blocks n columns (p .block) (p .payload))) (done-k k (p .least) (p .most))) (done-same WrongLength (length m) (rows * wordsOf columns) (p .exact)))
-      (done-same WrongBuffer image (n * wordsOf (columns - n)) (p .fitting))) (done-same WrongBuffer marks n (p .marked)))
-      (done-room 0 k columns room (omega (arith, table-only k (wordsOf columns), p .roomy))))
-      (done-padding rows columns m (p .exact) (p .clean))
-
-module _ (rows columns n k : ℕ) (m : List ℕ) (named room : ℕ) where
-  pub contradiction-passed : contradictionChecks rows columns n k m named room ≡ Done → ContradictionPasses rows columns n k m named room
-  contradiction-passed e =
-      let a₁ = tooManyRows rows andThen badColumns columns in
-      let a₂ = a₁ andThen badBlocks n columns in
-      let a₃ = a₂ andThen tooWide columns rows in
-      let a₄ = a₃ andThen badK k in
-      let a₅ = a₄ andThen wrongLength rows columns (length m) in
-      let a₆ = a₅ andThen wrongBuffer 1 rows named in
-      let a₇ = a₆ andThen shortRoom rows k (columns + rows) room in
-      let t₈ = then-done a₇ (dirtyPadding rows columns m) e in
-      let t₇ = then-done a₆ (shortRoom rows k (columns + rows) room) (t₈ .0) in
-      let t₆ = then-done a₅ (wrongBuffer 1 rows named) (t₇ .0) in
-      let t₅ = then-done a₄ (wrongLength rows columns (length m)) (t₆ .0) in
-      let t₄ = then-done a₃ (badK k) (t₅ .0) in
-      let t₃ = then-done a₂ (tooWide columns rows) (t₄ .0) in
-      let t₂ = then-done a₁ (badBlocks n columns) (t₃ .0) in
-      let t₁ = then-done (tooManyRows rows) (badColumns columns) (t₂ .0) in
-      let exact = same-done WrongLength (length m) (rows * wordsOf columns) (t₅ .1) in
-      record {
-        few = few-done rows (t₁ .0);
-        block = blocks-done n columns (t₂ .1) .0;
-        payload = blocks-done n columns (t₂ .1) .1;
-        wide = ltb-false 1024 (columns + rows) (if-done (ltb 1024 (columns + rows)) _ (t₃ .1));
-        least = k-done k (t₄ .1) .0;
-        most = k-done k (t₄ .1) .1;
-        exact = exact;
-        fitting = same-done WrongBuffer named (1 * wordsOf rows) (t₆ .1) ∙ one-mul (wordsOf rows);
-        roomy = room-done rows k (columns + rows) room (t₇ .1);
-        clean = padding-done rows columns m exact (t₈ .1);
-      }
-
-  pub passes-contradiction : ContradictionPasses rows columns n k m named room → contradictionChecks rows columns n k m named room ≡ Done
-  passes-contradiction p =
-      done-then (done-then (done-then (done-then (done-then (done-then (done-then (done-then (done-few rows (p .few)) (done-columns columns (omega (arith, p .payload)) (omega (arith, p .wide))))
-      (done-blocks n columns (p .block) (p .payload))) (done-if TooWide (le-ltb 1024 (columns + rows) (p .wide)))) (done-k k (p .least) (p .most))) (done-same WrongLength (length m) (rows * wordsOf columns) (p .exact)))
-      (done-same WrongBuffer named (1 * wordsOf rows) (p .fitting ∙ sym (one-mul (wordsOf rows))))) (done-room rows k (columns + rows) room (p .roomy)))
-      (done-padding rows columns m (p .exact) (p .clean))
+pub contradiction-small : (rows columns n k len named : ℕ) (o : Outcome) → o ≡ first (contradictionShapes rows columns n k len named) → Passes o → columns + rows ≤ 1536
+contradiction-small rows columns n k len named o e f =
+    passed (contradictionShapes rows columns n k len named)
+    (λ sizes blocks wide window exact line. let s = sizes-done rows columns sizes in omega (arith, s .few, s .wide)) (sym e ∙ f)

@@ -1,5 +1,7 @@
 -- The number of each refusal, and the first of several checks that refuses.
+use mathlib.Core.Path.{_≡_}
 use mathlib.Core.Bool.{Bool, true, false}
+use mathlib.Core.List.{List, [], _∷_}
 use Prim.Native.Nat.{ℕ}
 use Rattle.refusals.specs.declared.Refusal.{Refusal}
 use Rattle.refusals.specs.declared.Refusal.the-variants.{TooManyRows, BadColumns, BadK, WrongLength, DirtyPadding, ShortRoom, BadBlocks, NotSquare, NoInverse, Contradictory, TooWide, NotBelow, WrongBuffer, BundleSize, EntryCount, ContentsCut, BadKind, BadShape, WrongOffset, BodyPast, BytesLeft, ShortOutput, BundleOver}
@@ -46,8 +48,26 @@ abbrev pub Decides : Bool → Type 0 → Type 0
 Decides true A = A
 Decides false A = A → ⊥
 
+-- done exactly if the shapes fit: then what follows; else nothing has changed
+abbrev pub doneIf : Bool → Type 0 → Type 0 → Type 0 → Type 0
+doneIf true fits follows unchanged = fits × follows
+doneIf false fits follows unchanged = (fits → ⊥) × unchanged
+
 infixl 30 _andThen_
--- checks in order: the first that refuses
+-- the first of two checks that refuses
 abbrev pub _andThen_ : Outcome → Outcome → Outcome
 Done andThen o = o
 (Refused r) andThen o = Refused r
+
+-- checks in order: the first that refuses
+abbrev pub firstAfter : Outcome → List Outcome → Outcome
+firstAfter o [] = o
+firstAfter o (p ∷ ps) = firstAfter (o andThen p) ps
+
+abbrev pub first : List Outcome → Outcome
+first os = firstAfter Done os
+
+-- What a call promises, by the outcome of its checks: refused as they say, with nothing changed; or, where they pass, what follows
+pub record Promised (checks : Outcome) (refused : Refusal → Type 0) (follows : Type 0) : Type 0 where
+  pub stopped : (r : Refusal) → checks ≡ Refused r → refused r
+  pub past : checks ≡ Done → follows

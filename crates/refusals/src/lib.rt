@@ -1,12 +1,9 @@
 // The refusals, and the checks that give them: each check once, total and exact for all numbers.
 ghost use mathlib.Core.Path.{_≡_};
-ghost use Prim.Native.Nat.{_+_, _-_, _*_, _%_, _^_, _≤_, _<_};
+ghost use Prim.Native.Nat.{_+_, _-_, _*_, _^_};
 ghost use lib.Dec.{eqb, ltb};
-ghost use lib.ListN.{length, getD};
-ghost use Rattle.gf2.specs.Rows.{part};
-ghost use Rattle.words.specs.Words.{wordsOf, rowsOf};
-ghost use Rattle.refusals.specs.Outcome.{numberOf, outcomeNumber, refuseIf, _andThen_};
-ghost use Rattle.refusals.specs.Checks.{tooManyRows, badColumns, badK, wrongLength, shortRoom, badBlocks, notSquare, tooWide, wrongBuffer, wrongMarks, notBelow, narrow, holdsRows, dirtyPadding, viewChecks, reductionChecks, inverseShape, inverseChecks, solvingChecks, contradictionShape, contradictionChecks};
+ghost use Rattle.refusals.specs.Outcome.{numberOf, outcomeNumber, refuseIf, _andThen_, first};
+ghost use Rattle.refusals.specs.Checks.{tooManyRows, badColumns, sizeChecks, badK, wrongLength, shortRoom, badBlocks, notSquare, tooWide, wrongBuffer, wrongMarks, notBelow, dirtyPadding, viewChecks, reductionChecks, inverseShapes, inverseChecks, solvingShapes, solvingChecks, contradictionShapes, contradictionChecks};
 
 pub enum Refusal {
     TooManyRows,
@@ -103,40 +100,6 @@ fn refuse_if(test: bool, r: Refusal) -> Outcome
     }
 }
 
-// the words of a row
-pub fn words(columns: usize) -> usize
-    ensures { λ w. ⌜ w ≡ wordsOf columns ⌝ }
-{
-    if columns % 64 == 0 {
-        columns / 64
-    } else {
-        columns / 64 + 1
-    }
-}
-
-// the columns in the last word of a row, 0 where it is full
-pub fn odd_bits(columns: usize) -> usize
-    ensures { λ s. ⌜ s ≡ columns % 64 ⌝ }
-{
-    columns % 64
-}
-
-// word l of the row of w words at place `at`; zero where the row, or the buffer, ends before it
-pub fn word(m: &[u64], at: usize, w: usize, l: usize) -> u64
-    ensures { λ x. ⌜ x ≡ getD (part at w (now (m .entry))) l 0 ⌝ }
-{
-    if w <= l {
-        return 0;
-    }
-    if m.len() <= at {
-        return 0;
-    }
-    if m.len() - at <= l {
-        return 0;
-    }
-    m[at + l]
-}
-
 pub fn too_many_rows(rows: usize) -> Outcome
     ensures { λ r. ⌜ r ≡ tooManyRows rows ⌝ }
 {
@@ -150,6 +113,13 @@ pub fn bad_columns(columns: usize) -> Outcome
         1024 < columns,
         Refusal::BadColumns,
     ))
+}
+
+// the sizes of a matrix
+pub fn sizes(rows: usize, columns: usize) -> Outcome
+    ensures { λ r. ⌜ r ≡ sizeChecks rows columns ⌝ }
+{
+    too_many_rows(rows).and_then(bad_columns(columns))
 }
 
 pub fn bad_k(k: usize) -> Outcome
@@ -174,7 +144,10 @@ fn is_product(len: usize, rows: usize, w: usize) -> bool
 pub fn wrong_length(rows: usize, columns: usize, len: usize) -> Outcome
     ensures { λ r. ⌜ r ≡ wrongLength rows columns len ⌝ }
 {
-    refuse_if(!is_product(len, rows, words(columns)), Refusal::WrongLength)
+    refuse_if(
+        !is_product(len, rows, words::per_row(columns)),
+        Refusal::WrongLength,
+    )
 }
 
 // whether room is less than (more + 2^k) x w, without multiplying
@@ -197,7 +170,10 @@ fn is_short(room: usize, more: usize, k: usize, w: usize) -> bool
 pub fn short_room(more: usize, k: usize, columns: usize, room: usize) -> Outcome
     ensures { λ r. ⌜ r ≡ shortRoom more k columns room ⌝ }
 {
-    refuse_if(is_short(room, more, k, words(columns)), Refusal::ShortRoom)
+    refuse_if(
+        is_short(room, more, k, words::per_row(columns)),
+        Refusal::ShortRoom,
+    )
 }
 
 pub fn bad_blocks(n: usize, columns: usize) -> Outcome
@@ -231,7 +207,10 @@ pub fn too_wide(columns: usize, packets: usize) -> Outcome
 pub fn wrong_buffer(rows: usize, columns: usize, len: usize) -> Outcome
     ensures { λ r. ⌜ r ≡ wrongBuffer rows columns len ⌝ }
 {
-    refuse_if(!is_product(len, rows, words(columns)), Refusal::WrongBuffer)
+    refuse_if(
+        !is_product(len, rows, words::per_row(columns)),
+        Refusal::WrongBuffer,
+    )
 }
 
 pub fn wrong_marks(n: usize, len: usize) -> Outcome
@@ -246,43 +225,10 @@ pub fn not_below(i: usize, count: usize) -> Outcome
     refuse_if(count <= i, Refusal::NotBelow)
 }
 
-// whether no row has a one past its last column
-fn is_clean(m: &[u64], w: usize, rows: usize, columns: usize) -> bool
-    requires { ⌜ (rows * w ≤ length (now m)) × (w ≡ wordsOf columns) × (0 < w) ⌝ }
-    ensures { λ r. ⌜ r ≡ narrow columns (rowsOf w rows (now (m .entry))) ⌝ }
-{
-    let s = odd_bits(columns);
-    if s == 0 {
-        return true;
-    }
-    let mut i = 0;
-    while i < rows {
-        if m[i * w + (w - 1)] >> s != 0 {
-            return false;
-        }
-        i += 1;
-    }
-    true
-}
-
-// whether the buffer starts with that many rows, and none of them has a one past its last column
-pub fn holds(m: &[u64], rows: usize, columns: usize) -> bool
-    ensures { λ r. ⌜ r ≡ holdsRows rows columns (now (m .entry)) ⌝ }
-{
-    let w = words(columns);
-    if w == 0 {
-        return true;
-    }
-    if m.len() / w < rows {
-        return false;
-    }
-    is_clean(m, w, rows, columns)
-}
-
 pub fn dirty_padding(m: &[u64], rows: usize, columns: usize) -> Outcome
     ensures { λ r. ⌜ r ≡ dirtyPadding rows columns (now (m .entry)) ⌝ }
 {
-    refuse_if(!holds(m, rows, columns), Refusal::DirtyPadding)
+    refuse_if(!words::hold_rows(m, rows, columns), Refusal::DirtyPadding)
 }
 
 // the check of the padding, behind others: no word of the matrix is read unless all of these have passed
@@ -299,7 +245,7 @@ fn then_padding(earlier: Outcome, m: &[u64], rows: usize, columns: usize) -> Out
 pub fn view(rows: usize, columns: usize, len: usize, i: usize) -> Outcome
     ensures { λ r. ⌜ r ≡ viewChecks rows columns len i ⌝ }
 {
-    let o = too_many_rows(rows).and_then(bad_columns(columns));
+    let o = sizes(rows, columns);
     let size = wrong_length(rows, columns, len);
     let below = not_below(i, rows);
     o.and_then(size).and_then(below)
@@ -309,9 +255,7 @@ pub fn view(rows: usize, columns: usize, len: usize, i: usize) -> Outcome
 pub fn reduction(m: &[u64], rows: usize, columns: usize, k: usize, room: usize) -> Outcome
     ensures { λ r. ⌜ r ≡ reductionChecks rows columns k (now (m .entry)) room ⌝ }
 {
-    let o = too_many_rows(rows)
-        .and_then(bad_columns(columns))
-        .and_then(bad_k(k));
+    let o = sizes(rows, columns).and_then(bad_k(k));
     let size = wrong_length(rows, columns, m.len());
     let short = short_room(0, k, columns, room);
     let p = o.and_then(size).and_then(short);
@@ -320,11 +264,9 @@ pub fn reduction(m: &[u64], rows: usize, columns: usize, k: usize, room: usize) 
 
 // the inverse's checks of numbers and lengths
 fn inverse_shape(rows: usize, columns: usize, k: usize, len: usize, result: usize) -> Outcome
-    ensures { λ r. ⌜ r ≡ inverseShape rows columns k len result ⌝ }
+    ensures { λ r. ⌜ r ≡ first (inverseShapes rows columns k len result) ⌝ }
 {
-    let o = too_many_rows(rows)
-        .and_then(bad_columns(columns))
-        .and_then(not_square(rows, columns));
+    let o = sizes(rows, columns).and_then(not_square(rows, columns));
     o.and_then(bad_k(k))
         .and_then(wrong_length(rows, columns, len))
         .and_then(wrong_buffer(rows, columns, result))
@@ -359,6 +301,33 @@ fn past(columns: usize, n: usize) -> usize
     if n < columns { columns - n } else { 0 }
 }
 
+// an image of n blocks, as wide as the payload of packets of that many columns
+fn wrong_image(n: usize, columns: usize, len: usize) -> Outcome
+    ensures { λ r. ⌜ r ≡ wrongBuffer n (columns - n) len ⌝ }
+{
+    wrong_buffer(n, past(columns, n), len)
+}
+
+// the checks of numbers and lengths in solving
+fn solving_shape(
+    rows: usize,
+    columns: usize,
+    n: usize,
+    k: usize,
+    len: usize,
+    image: usize,
+    marks: usize,
+) -> Outcome
+    ensures { λ r. ⌜ r ≡ first (solvingShapes rows columns n k len image marks) ⌝ }
+{
+    let o = sizes(rows, columns)
+        .and_then(bad_blocks(n, columns))
+        .and_then(bad_k(k));
+    let p = o.and_then(wrong_length(rows, columns, len));
+    p.and_then(wrong_image(n, columns, image))
+        .and_then(wrong_marks(n, marks))
+}
+
 // the checks of solving
 pub fn solving(
     m: &[u64],
@@ -372,15 +341,9 @@ pub fn solving(
 ) -> Outcome
     ensures { λ r. ⌜ r ≡ solvingChecks rows columns n k (now (m .entry)) image marks room ⌝ }
 {
-    let o = too_many_rows(rows)
-        .and_then(bad_columns(columns))
-        .and_then(bad_blocks(n, columns));
-    let p = o.and_then(bad_k(k))
-        .and_then(wrong_length(rows, columns, m.len()))
-        .and_then(wrong_buffer(n, past(columns, n), image));
-    let q = p.and_then(wrong_marks(n, marks))
-        .and_then(short_room(0, k, columns, room));
-    then_padding(q, m, rows, columns)
+    let o = solving_shape(rows, columns, n, k, m.len(), image, marks);
+    let p = o.and_then(short_room(0, k, columns, room));
+    then_padding(p, m, rows, columns)
 }
 
 // the contradiction call's checks of numbers and lengths
@@ -392,11 +355,9 @@ fn contradiction_shape(
     len: usize,
     named: usize,
 ) -> Outcome
-    ensures { λ r. ⌜ r ≡ contradictionShape rows columns n k len named ⌝ }
+    ensures { λ r. ⌜ r ≡ first (contradictionShapes rows columns n k len named) ⌝ }
 {
-    let o = too_many_rows(rows)
-        .and_then(bad_columns(columns))
-        .and_then(bad_blocks(n, columns));
+    let o = sizes(rows, columns).and_then(bad_blocks(n, columns));
     let p = o.and_then(too_wide(columns, rows)).and_then(bad_k(k));
     p.and_then(wrong_length(rows, columns, len))
         .and_then(wrong_buffer(1, rows, named))

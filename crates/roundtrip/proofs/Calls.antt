@@ -10,7 +10,7 @@ use Rattle.wire.specs.Bytes.{Bytes}
 use Rattle.refusals.specs.declared.Outcome.{Outcome}
 use Rattle.refusals.specs.declared.Outcome.the-variants.{Done, Refused}
 use Rattle.bundle.specs.Bundle.{Entry, bodyWords, bothKinds, countOf, bundleChecks, entryAt, entriesFrom, entriesOf, bundle, meaning}
-use Rattle.bundle.specs.Answers.{Found, found, countedIn, find, toldOf, lentEntry, unpackedOf}
+use Rattle.bundle.specs.Answers.{Lookup, found, countedIn, find, toldOf, lentEntry, unpackedOf}
 use Rattle.bundle.specs.declared.Counted.the-variants as counted
 use Rattle.bundle.specs.declared.Told.{Told}
 use Rattle.bundle.specs.declared.Told.the-variants as told
@@ -22,7 +22,7 @@ use Rattle.pack.specs.declared.Written.the-variants as answer
 use Rattle.pack.proofs.Lengths.{length-encode}
 use Rattle.pack.proofs.Passing.{writable, write-passes}
 use Rattle.roundtrip.specs.Trips.{kindsOf, rowCountsOf, columnCountsOf, wordsOfAll, startOf, wordsGiven}
-use Rattle.roundtrip.specs.Calls.{ReadCall, EntryCall, UnpackCall, WriteCall, kindIn, rowsIn, columnsIn, IsEntry, Unpacking, none, next, AllEntries, kindsTold, rowsTold, columnsTold, wordsLeft}
+use Rattle.roundtrip.specs.Calls.{ReadCall, EntryCall, UnpackCall, WriteCall, kindIn, rowsIn, columnsIn, NotRefused, Unpacking, none, next, NoneRefused, kindsTold, rowsTold, columnsTold, wordsLeft}
 use Rattle.roundtrip.proofs.FromBytes.{written-again}
 use Rattle.roundtrip.proofs.FromLists.{counted-again, unpacks-again}
 use Rattle.roundtrip.proofs.SameBytes.{same-bytes}
@@ -41,25 +41,25 @@ module _ (b : List ℕ) (done : bundleChecks bothKinds b ≡ Done) where
 
   -- what was told and left, from entry i on
   record Told-of (i n : ℕ) (us : Unpacking b i n) : Type 0 where
-    pub entries : AllEntries us
+    pub entries : NoneRefused us
     pub kinds : kindsTold us ≡ kindsOf (entriesFrom n i b)
     pub rows : rowsTold us ≡ rowCountsOf (entriesFrom n i b)
     pub columns : columnsTold us ≡ columnCountsOf (entriesFrom n i b)
     pub words : wordsLeft us ≡ wordsOfAll (entriesFrom n i b)
 
   told-of : (i n : ℕ) (us : Unpacking b i n) → i + n ≤ countOf b → Told-of i n us
-  unfolding AllEntries kindsTold rowsTold columnsTold wordsLeft entriesFrom wordsOfAll toldOf unpackedOf
+  unfolding NoneRefused kindsTold rowsTold columnsTold wordsLeft entriesFrom wordsOfAll toldOf unpackedOf
   told-of i zero none h = record { entries = tt; kinds = refl; rows = refl; columns = refl; words = refl }
   told-of i (suc n) (next a c l us) h =
       let f : lentEntry bothKinds i b (c .words) ≡ found (entryAt i b) = lent i (omega arith) a c l in
       let t : c .answer ≡ toldOf (found (entryAt i b)) = c .promise .0 ∙ ap toldOf f in
       let rest : Told-of (i + 1) n us = told-of (i + 1) n us (omega arith) in
       record {
-        entries = (subst IsEntry (sym t) refl, rest .entries);
+        entries = (subst NotRefused (sym t) refl, rest .entries);
         kinds = ap₂ _∷_ (ap kindIn t) (rest .kinds);
         rows = ap₂ _∷_ (ap rowsIn t) (rest .rows);
         columns = ap₂ _∷_ (ap columnsIn t) (rest .columns);
-        words = ap₂ _++_ (c .promise .1 ∙ ap (λ (x : Found). unpackedOf x (c .words)) f) (rest .words);
+        words = ap₂ _++_ (c .promise .1 ∙ ap (λ (x : Lookup). unpackedOf x (c .words)) f) (rest .words);
       }
 
 -- a write of lists that give entries es
@@ -80,7 +80,7 @@ written-back ks rs cs ws ks′ rs′ cs′ ws′ out b es ek er ec ew back s w =
 -- Unpack every entry of bytes that `read` accepts: no call is refused. Write what the calls told and left: the answer is the length of those bytes, and they stand
 -- at the front of the output, with what stood there behind them.
 pub written-by-calls : (b : List ℕ) → Bytes b → (r : ReadCall b) (n : ℕ) → r .answer ≡ counted.Entries n → (us : Unpacking b 0 n)
-    → AllEntries us
+    → NoneRefused us
     × ((out : List ℕ) → length b ≤ length out → (w : WriteCall (kindsTold us) (rowsTold us) (columnsTold us) (wordsLeft us) out)
     → (w .answer ≡ answer.Bytes (length b)) × (w .out′ ≡ b ++ drop (length b) out))
 unfolding entriesOf
@@ -123,7 +123,7 @@ module _ (ks rs cs ws out : List ℕ) (small : (i : ℕ) → getD ks i 0 < 65536
   -- kind, rows and columns number i of those given, and leaves the words given for it.
   pub unpacked-by-calls : (length (take n (w .out′)) ≡ n) × ((r : ReadCall (take n (w .out′))) → r .answer ≡ counted.Entries (length ks))
       × ((i : ℕ) → i < length ks → (c : UnpackCall (take n (w .out′)) i) → length (c .words) ≡ bodyWords (getD rs i 0) (getD cs i 0)
-      → (c .answer ≡ told.Entry (getD ks i 0) (getD rs i 0) (getD cs i 0)) × (c .words′ ≡ wordsGiven i rs cs ws))
+      → (c .answer ≡ told.Numbers (getD ks i 0) (getD rs i 0) (getD cs i 0)) × (c .words′ ≡ wordsGiven i rs cs ws))
   unpacked-by-calls = (
     ap length front ∙ long,
     λ r. r .promise ∙ ap (λ (b : List ℕ). countedIn (meaning bothKinds b)) front ∙ counted-again bothKinds ks rs cs ws (length out) fit small (passed .0),

@@ -7,7 +7,7 @@ use native.Mathlib.Nat.{lt-of-le-of-lt}
 use native.Mathlib.Omega.{arith}
 use lib.Dec.{lit<}
 use lib.ListN.{length, length-append}
-use Rattle.words.specs.Words.{wordsOf, rowsOf, flat}
+use Rattle.words.specs.Words.{wordsOf, rowsOf, flat, narrow}
 use Rattle.words.proofs.Flat.{length-flat, fit-flat}
 use Rattle.wire.specs.Bytes.{num, bytesOf}
 use Rattle.wire.specs.Kinds.{wordsAt}
@@ -15,10 +15,13 @@ use Rattle.wire.proofs.Bytes.{length-bytes, num-at}
 use Rattle.wire.proofs.Orders.{words-at}
 use Rattle.refusals.specs.declared.Outcome.{Outcome}
 use Rattle.refusals.specs.declared.Outcome.the-variants.{Done}
-use Rattle.refusals.specs.Checks.{narrow}
-use Rattle.refusals.proofs.Padding.{narrow-row}
-use Rattle.refusals.proofs.Passed.{done-then, done-same}
-use Rattle.bundle.specs.Bundle.{Entry, bodyWords, headBytes, countOf, kindAt, rowsAt, columnsAt, offsetAt, wordsIn, matrixAt, entryChecks, entriesChecks, bundleChecks, entryAt, entriesFrom, entriesOf, Shaped}
+use Rattle.words.proofs.Padding.{narrow-row}
+use Rattle.refusals.specs.Outcome.{first}
+use Rattle.refusals.specs.Checks.{Sized}
+use Rattle.refusals.proofs.Chain.{Passes, done-then}
+use Rattle.refusals.proofs.Passed.{done-same}
+use Rattle.bundle.specs.Bundle.{Entry, bodyWords, headBytes, countOf, kindAt, rowsAt, columnsAt, offsetAt, wordsIn, matrixAt}
+use Rattle.bundle.specs.Bundle.{entryOrder, entriesChecks, bundleChecks, entryAt, entriesFrom, entriesOf}
 use Rattle.bundle.proofs.Bodies.{rows-again}
 use Rattle.bundle.proofs.Passing.{entry-passes, bundle-passes}
 use Rattle.pack.specs.Encode.{headOf, contentsOf, bodyOf, bodiesOf, encode}
@@ -28,7 +31,7 @@ use Rattle.pack.proofs.Lengths.{length-head, length-contents, length-body}
 pub record Proper (rule : ℕ → Outcome) (e : Entry) : Type 0 where
   pub taken : rule (e .kind) ≡ Done
   pub small : e .kind < 65536
-  pub shape : Shaped (e .rows) (e .columns)
+  pub shape : Sized 512 (e .rows) (e .columns)
   pub size : length (e .matrix) ≡ e .rows
   pub clean : narrow (e .columns) (e .matrix) ≡ true
 
@@ -145,7 +148,7 @@ module _ (rule : ℕ → Outcome) (e : Entry) (i p : ℕ) (pre C mid B b : List 
       }
 
 -- such an entry passes, and is read
-passes : (rule : ℕ → Outcome) (e : Entry) (i p : ℕ) (b : List ℕ) → Proper rule e → Says e i p b → entryChecks rule i p b ≡ Done
+passes : (rule : ℕ → Outcome) (e : Entry) (i p : ℕ) (b : List ℕ) → Proper rule e → Says e i p b → Passes (first (entryOrder rule i p b))
 passes rule e i p b pr s =
     entry-passes rule i p b
     (record {

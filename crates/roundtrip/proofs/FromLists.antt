@@ -8,17 +8,16 @@ use lib.Dec.{T}
 use lib.ListN.{length, take, drop, getD, length-drop}
 use lib.Seq.{drop-drop}
 use borrow.Author.Tests.{eq-eqb}
-use Rattle.words.specs.Words.{Fit, wordsOf, rowsOf}
+use Rattle.words.specs.Words.{Fit, wordsOf, rowsOf, narrow}
 use Rattle.words.proofs.Value.{fit-drop}
 use Rattle.words.proofs.Rows.{length-rows}
 use Rattle.words.proofs.Flat.{flat-rows}
 use Rattle.refusals.specs.declared.Outcome.{Outcome}
 use Rattle.refusals.specs.declared.Outcome.the-variants.{Done}
 use Rattle.refusals.specs.Outcome.{_andThen_}
-use Rattle.refusals.specs.Checks.{narrow}
 use Rattle.refusals.proofs.Passed.{then-done}
 use Rattle.bundle.specs.Bundle.{Entry, bodyWords, badShape, bundle, meaning}
-use Rattle.bundle.specs.Answers.{countedIn, Found, found, fitting, entryIn, find, toldOf, lentFor, lentEntry, unpackedOf}
+use Rattle.bundle.specs.Answers.{countedIn, Lookup, found, fitting, entryIn, find, toldOf, lentFor, lentEntry, unpackedOf}
 use Rattle.bundle.specs.declared.Counted.the-variants as counted
 use Rattle.bundle.specs.declared.Told.the-variants as told
 use Rattle.bundle.proofs.Passing.{shaped}
@@ -101,13 +100,13 @@ module _ (rule : ℕ → Outcome) (ks rs cs ws : List ℕ) (room : ℕ) (fit : F
         ap (find i) given-again ∙ given-at ks rs cs ws (v .rows-too) (v .columns-too) i h
 
     -- the three numbers of each,
-    pub told-again : toldOf (find i (meaning rule (encode (given ks rs cs ws)))) ≡ told.Entry (getD ks i 0) (getD rs i 0) (getD cs i 0)
+    pub told-again : toldOf (find i (meaning rule (encode (given ks rs cs ws)))) ≡ told.Numbers (getD ks i 0) (getD rs i 0) (getD cs i 0)
     unfolding toldOf
     told-again = ap toldOf found-again
 
     -- and its words
     pub unpacks-again : (words : List ℕ) → length words ≡ bodyWords (getD rs i 0) (getD cs i 0)
-        → (toldOf (lentEntry rule i (encode (given ks rs cs ws)) words) ≡ told.Entry (getD ks i 0) (getD rs i 0) (getD cs i 0))
+        → (toldOf (lentEntry rule i (encode (given ks rs cs ws)) words) ≡ told.Numbers (getD ks i 0) (getD rs i 0) (getD cs i 0))
         × (unpackedOf (lentEntry rule i (encode (given ks rs cs ws)) words) words ≡ take (length words) (drop (startOf i rs cs) ws))
     unfolding lentFor toldOf unpackedOf bodyWords
     unpacks-again words l =
@@ -120,7 +119,7 @@ module _ (rule : ℕ → Outcome) (ks rs cs ws : List ℕ) (room : ℕ) (fit : F
         let inside : startOf i rs cs + r * wordsOf c ≤ length ws =
         subst (λ (k : ℕ). startOf i rs cs + r * wordsOf c ≤ k) (v .words-fit) (within rs cs i (omega (arith, v .rows-too)) (omega (arith, v .columns-too))) in (
           ap toldOf s,
-          ap (λ (f : Found). unpackedOf f words) s
+          ap (λ (f : Lookup). unpackedOf f words) s
               ∙ flat-rows (wordsOf c) r rest (fit-drop (startOf i rs cs) ws fit) (omega (arith, inside, length-drop (startOf i rs cs) ws))
               ∙ ap (λ (k : ℕ). take k rest) (sym l),
         )

@@ -7,7 +7,7 @@ use native.Mathlib.Omega.{arith}
 use lib.Dec.{lit<}
 use lib.ListN.{length, getD, take, drop, length-append}
 use lib.Seq.{drop-at}
-use Rattle.words.specs.Words.{Fit, wordsOf, rowsOf, flat}
+use Rattle.words.specs.Words.{Fit, wordsOf, rowsOf, flat, narrow}
 use Rattle.words.proofs.Rows.{length-rows, rows-front}
 use Rattle.words.proofs.Flat.{length-flat, fit-flat, fit-append}
 use Rattle.wire.specs.Bytes.{Bytes}
@@ -15,7 +15,6 @@ use Rattle.wire.specs.Kinds.{wordsAt}
 use Rattle.wire.proofs.Bytes.{num-lt}
 use Rattle.refusals.specs.declared.Outcome.{Outcome}
 use Rattle.refusals.specs.declared.Outcome.the-variants.{Done}
-use Rattle.refusals.specs.Checks.{narrow}
 use Rattle.refusals.proofs.Passed.{done-then}
 use Rattle.bundle.specs.Bundle.{Entry, bodyWords, headBytes, countOf, kindAt, rowsAt, columnsAt, offsetAt, wordsIn, matrixAt, entriesChecks, entryAt, entriesFrom, entriesOf, bundle, meaning, Accepted}
 use Rattle.bundle.specs.Answers.{toldOf, lentEntry, unpackedOf}
@@ -28,7 +27,7 @@ use Rattle.pack.proofs.Passing.{write-passes}
 use Rattle.roundtrip.specs.Trips.{kindsOf, rowCountsOf, columnCountsOf, wordsOfAll, startOf}
 use Rattle.roundtrip.proofs.FromBytes.{written-again}
 use Rattle.bundle.proofs.Bodies.{rows-again}
-use Rattle.refusals.proofs.Padding.{narrow-row}
+use Rattle.words.proofs.Padding.{narrow-row}
 use Rattle.bundle.proofs.Meaning.{count-from}
 use Rattle.roundtrip.proofs.FromEntries.{Propers, none, one}
 use Rattle.bundle.proofs.Exactly.{meant}
@@ -143,7 +142,7 @@ module _ (rule : ℕ → Outcome) (b : List ℕ) (es : List Entry) (f : Bytes b)
 
   -- the lists are those that the calls give: entry i has its numbers at place i, and its words after those of the entries before it
   pub unpacked : (i : ℕ) → i < countOf b → (words : List ℕ) → length words ≡ bodyWords (getD (rowCountsOf es) i 0) (getD (columnCountsOf es) i 0)
-      → (toldOf (lentEntry rule i b words) ≡ told.Entry (getD (kindsOf es) i 0) (getD (rowCountsOf es) i 0) (getD (columnCountsOf es) i 0))
+      → (toldOf (lentEntry rule i b words) ≡ told.Numbers (getD (kindsOf es) i 0) (getD (rowCountsOf es) i 0) (getD (columnCountsOf es) i 0))
       × (unpackedOf (lentEntry rule i b words) words ≡ take (length words) (drop (startOf i (rowCountsOf es) (columnCountsOf es)) (wordsOfAll es)))
   unpacked i h words l =
       rw same at (unpacks-again rule K R C W (length b) (F .fit) (F .small) (passes (length b) (omega arith)) i (omega (arith, many)) words l)

@@ -3,11 +3,11 @@ use mathlib.Core.Path.{_≡_, refl}
 use mathlib.Core.List.{List, [], _∷_, _++_}
 use Prim.Native.Nat.{ℕ, zero, suc, _+_}
 use lib.ListN.{length, replicate, length-replicate}
-use Rattle.words.specs.Words.{rowsOf, flat}
+use Rattle.words.specs.Words.{rowsOf, flat, narrow}
 use Rattle.wire.specs.Bytes.{num}
 use Rattle.wire.specs.Kinds.{order, wordsAt}
-use Rattle.refusals.specs.Checks.{narrow}
-use Rattle.bundle.specs.Bundle.{bodyWords, kindRule, bothKinds, badShape, matrixAt, bodyChecks, entryChecks, entriesChecks, bundleChecks, entryAt, entriesFrom, entriesOf, meaning}
+use Rattle.refusals.specs.Checks.{tooManyRows, badColumns, sizeChecks}
+use Rattle.bundle.specs.Bundle.{bodyWords, kindRule, bothKinds, badShape, matrixAt, bodyOrder, entryOrder, entriesChecks, bundleOrder, entryAt, entriesFrom, entriesOf, meaning}
 use Rattle.bundle.specs.Answers.{countedIn, entryIn, find, toldOf, lentFor, lentEntry, unpackedOf}
 use Rattle.bundle.specs.Sample.{sample}
 use Rattle.bundle.specs.declared.Counted.{Counted}
@@ -42,20 +42,20 @@ pub record WriteCall (ks rs cs ws out : List ℕ) : Type 0 where
 -- ---- the numbers in an answer; a refusal has none
 
 abbrev pub kindIn : Told → ℕ
-kindIn (told.Entry kind rows columns) = kind
+kindIn (told.Numbers kind rows columns) = kind
 kindIn (told.Refused r) = 0
 
 abbrev pub rowsIn : Told → ℕ
-rowsIn (told.Entry kind rows columns) = rows
+rowsIn (told.Numbers kind rows columns) = rows
 rowsIn (told.Refused r) = 0
 
 abbrev pub columnsIn : Told → ℕ
-columnsIn (told.Entry kind rows columns) = columns
+columnsIn (told.Numbers kind rows columns) = columns
 columnsIn (told.Refused r) = 0
 
 -- an answer that is no refusal
-abbrev pub IsEntry : Told → Type 0
-IsEntry t = t ≡ told.Entry (kindIn t) (rowsIn t) (columnsIn t)
+abbrev pub NotRefused : Told → Type 0
+NotRefused t = t ≡ told.Numbers (kindIn t) (rowsIn t) (columnsIn t)
 
 -- ---- unpacking entry by entry
 
@@ -66,10 +66,10 @@ pub data Unpacking (b : List ℕ) : ℕ → ℕ → Type 0 where
       → Unpacking b (i + 1) n → Unpacking b i (suc n)
 
 module _ {b : List ℕ} where
-  -- each unpacking answered an entry
-  unfoldable pub AllEntries : {i n : ℕ} → Unpacking b i n → Type 0
-  AllEntries none = Unit {0}
-  AllEntries (next a c l cs) = IsEntry (c .answer) × AllEntries cs
+  -- no unpacking was refused
+  unfoldable pub NoneRefused : {i n : ℕ} → Unpacking b i n → Type 0
+  NoneRefused none = Unit {0}
+  NoneRefused (next a c l cs) = NotRefused (c .answer) × NoneRefused cs
 
   -- the kinds, rows and columns that the unpackings told
   unfoldable pub kindsTold : {i n : ℕ} → Unpacking b i n → List ℕ
@@ -104,5 +104,6 @@ unpacking b i (suc n) =
 
 -- of the sample they leave the words of its first entry, then those of its second
 pub sample-left : wordsLeft (unpacking sample 0 2) ≡ 3 ∷ 1 ∷ 6 ∷ 6 ∷ 0 ∷ []
-unfolding wordsLeft unpacking sample meaning bundleChecks entriesChecks entryChecks bodyChecks badShape kindRule matrixAt bodyWords narrow rowsOf wordsAt order num entriesOf entriesFrom entryAt find entryIn toldOf lentFor unpackedOf flat
+unfolding wordsLeft unpacking sample meaning bundleOrder entriesChecks entryOrder bodyOrder badShape sizeChecks tooManyRows badColumns kindRule
+    matrixAt bodyWords narrow rowsOf wordsAt order num entriesOf entriesFrom entryAt find entryIn toldOf lentFor unpackedOf flat
 sample-left = refl

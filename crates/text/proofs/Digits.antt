@@ -28,7 +28,9 @@ spells (suc k) zero n h small large = absurd (omega arith)
 spells (suc k) (suc d) n h small large =
     let big : 10 ≤ n = ten (10 ^ k) n (ten-pos k) (tens n k (large (omega arith))) in
     (simp (le-ltb n 10 big))
-    ∙ ap₂ (λ (x : List ℕ) (y : ℕ). x ++ (y ∷ [])) (spells k d (n / 10) (omega arith) (fewer n (10 ^ suc k) (below n (suc k) small)) (λ p. more (10 ^ k) n (tens n k (large (omega arith))))) (sym (glyph-ten (n % 10) (mod-lt n (lit< tt))))
+    ∙ ap₂ (λ (x : List ℕ) (y : ℕ). x ++ (y ∷ []))
+    (spells k d (n / 10) (omega arith) (fewer n (10 ^ suc k) (below n (suc k) small)) (λ p. more (10 ^ k) n (tens n k (large (omega arith)))))
+    (sym (glyph-ten (n % 10) (mod-lt n (lit< tt))))
   where
     tens : (n k : ℕ) → 10 ^ suc k ≤ n → 10 ^ k * 10 ≤ n
     tens n k h = omega arith

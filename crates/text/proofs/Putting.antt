@@ -103,8 +103,12 @@ put-all s out out′ r a h =
     let ends : 0 + length s ≡ r = omega arith in
     (e, a .holds ∙ ap₂ (λ (l : List ℕ) (k : ℕ). l ++ drop k out) whole ends)
 
-pub put-none : (p : ℕ) (out : List ℕ) → Put p [] out (min p (length out)) out
-put-none p out = record { ends = omega arith; holds = sym (over-none p out) }
+-- a buffer is as long as before
+pub put-length : {p r n : ℕ} {s out out′ : List ℕ} → Put p s out r out′ → length out ≡ n → length out′ ≡ n
+put-length {p} {r} {n} {s} {out} {out′} a e = ap length (a .holds) ∙ length-over p s out ∙ e
+
+pub put-none : (p r : ℕ) (out : List ℕ) → r ≡ min p (length out) → Put p [] out r out
+put-none p r out e = record { ends = omega arith; holds = sym (over-none p out) }
 
 pub put-byte : (p x : ℕ) (out : List ℕ) → p < length out → Put p (x ∷ []) out (p + 1) (set out p x)
 put-byte p x out h = record { ends = omega arith; holds = set-byte p x out h }
@@ -113,7 +117,8 @@ pub put-full : (p x : ℕ) (out : List ℕ) → length out ≤ p → Put p (x �
 put-full p x out h = record { ends = omega arith; holds = sym (over-full p (x ∷ []) out h) }
 
 -- a byte more of a text
-pub put-more : {p i q q′ x : ℕ} (s : List ℕ) {out out′ out″ : List ℕ} → i < length s → x ≡ getD s i 0 → Put p (take i s) out q out′ → Put q (x ∷ []) out′ q′ out″ → Put p (take (i + 1) s) out q′ out″
+pub put-more : {p i q q′ x : ℕ} (s : List ℕ) {out out′ out″ : List ℕ} → i < length s → x ≡ getD s i 0 → Put p (take i s) out q out′
+    → Put q (x ∷ []) out′ q′ out″ → Put p (take (i + 1) s) out q′ out″
 put-more {p} {i} {q} {q′} {x} s {out} {out′} {out″} h e a b =
     subst (λ (t : List ℕ). Put p t out q′ out″) (ap (λ (y : ℕ). take i s ++ (y ∷ [])) e ∙ sym (ap (λ (k : ℕ). take k s) (add-one i) ∙ take-suc s i 0 h)) (put-then a b)
 
@@ -131,6 +136,12 @@ bits-more (suc c) v =
     one : (c : ℕ) → 1 + c ≡ suc c
     one c = omega arith
 
-pub put-column : {p q q′ x : ℕ} (c v : ℕ) {out out′ out″ : List ℕ} → x ≡ 48 + bit c v → Put p (bits c v) out q out′ → Put q (x ∷ []) out′ q′ out″ → Put p (bits (c + 1) v) out q′ out″
+pub put-column : {p q q′ x : ℕ} (c v : ℕ) {out out′ out″ : List ℕ} → x ≡ 48 + bit c v → Put p (bits c v) out q out′
+    → Put q (x ∷ []) out′ q′ out″ → Put p (bits (c + 1) v) out q′ out″
 put-column {p} {q} {q′} {x} c v {out} {out′} {out″} e a b =
     subst (λ (t : List ℕ). Put p t out q′ out″) (ap (λ (y : ℕ). bits c v ++ (y ∷ [])) e ∙ sym (ap (λ (k : ℕ). bits k v) (add-one c) ∙ bits-more c v)) (put-then a b)
+
+pub put-columns : {p q c : ℕ} (columns v : ℕ) {out out′ : List ℕ} → c ≤ columns → columns ≤ c → Put p (bits c v) out q out′ → Put p (bits columns v) out q out′
+put-columns {p} {q} {c} columns v {out} {out′} l h a =
+    let e : c ≡ columns = omega arith in
+    subst (λ (k : ℕ). Put p (bits k v) out q out′) e a

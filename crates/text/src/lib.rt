@@ -2,7 +2,6 @@
 ghost use mathlib.Core.Path.{_≡_};
 ghost use mathlib.Core.List.{[], _∷_};
 ghost use Prim.Native.Nat.{_+_, min};
-ghost use lib.ListN.{getD};
 ghost use Rattle.gf2.specs.Rows.{bit};
 ghost use Rattle.words.specs.Words.{value};
 ghost use Rattle.text.specs.Text.{decimal as decimalText, bits as bitsText};
@@ -48,21 +47,12 @@ pub fn decimal(out: &mut [u8], p: usize, n: usize) -> usize
     bytes(out, p, &text[..k])
 }
 
-// word l of a row; past the row's end, zero
-fn word(row: &[u64], l: usize) -> u64
-    ensures { λ x. ⌜ x ≡ getD (now (row .entry)) l 0 ⌝ }
-{
-    if l < row.len() {
-        return row[l];
-    }
-    0
-}
-
 // column c of a row as the digit 0 or 1
 fn digit(row: &[u64], c: usize) -> u8
     ensures { λ r. ⌜ r ≡ 48 + bit c (value (now (row .entry))) ⌝ }
 {
-    48 + ((word(row, c / 64) >> (c % 64)) % 2) as u8
+    let word = words::word(row, 0, row.len(), c / 64);
+    48 + ((word >> (c % 64)) % 2) as u8
 }
 
 // the columns of a row as zeros and ones

@@ -7,21 +7,16 @@ use native.Mathlib.Decide.{decLt}
 use native.Mathlib.Omega.{arith}
 use lib.Dec.{lit<}
 use lib.Pow.{pow-add, pow-pos, pow-mono}
-use lib.Arith.{digits-lt, digits-mod, digits-div}
 use lib.ListN.{length, take, drop, getD, length-take, length-drop, drop-of-length-le, List·getD-eq-default}
 use lib.Seq.{drop-cons, getD-drop, take-at, drop-at}
 use mir.Val.{Fits}
 use mir.Syntax.{w8}
+use Rattle.words.proofs.Digits.{length-digits, number-lt, digits-number, number-digits}
 use Rattle.words.proofs.Parts.{length-part, getD-part}
 use Rattle.wire.specs.Bytes.{Bytes, le, num, bytesOf}
 
 pub le-lt : (l : List ℕ) → Bytes l → le l < 2 ^ (8 * length l)
-unfolding le
-le-lt [] f = pow-pos (8 * 0)
-le-lt (x ∷ l) f =
-    let e : 8 * length l + 8 ≡ 8 * suc (length l) = omega arith in
-    subst (λ (k : ℕ). le l * 256 + x < 2 ^ k) e
-    (subst (λ (n : ℕ). le l * 256 + x < n) (sym (pow-add 2 (8 * length l) 8)) (digits-lt (le-lt l (λ i. f (suc i))) (f 0)))
+le-lt = number-lt 8
 
 pub bytes-part : (s : List ℕ) (at k : ℕ) → Bytes s → Bytes (take k (drop at s))
 bytes-part s at k f i = go (decLt i k)
@@ -47,15 +42,16 @@ module _ (s : List ℕ) (at k : ℕ) (fits : (j : ℕ) → Fits w8 (getD s j 0))
   lB = length-part at k s h
 
   pub number-start : 0 ≡ le (drop k B)
-  unfolding le
   number-start = ap le (sym (drop-of-length-le B {i = k} (omega (arith, lB))))
 
   pub number-turn : (i x : ℕ) → 0 < i → i ≤ k → x ≡ le (drop i B) → x * 256 + getD s (at + (i - 1)) 0 ≡ le (drop (i - 1) B)
-  unfolding le
   number-turn i x p q e =
       let b : suc (i - 1) ≡ i = omega arith in
       let here : i - 1 < k = omega arith in
-      sym (ap le (drop-cons B (i - 1) 0 (omega (arith, lB))) ∙ ap₂ (λ (l : List ℕ) (y : ℕ). le l * 256 + y) (ap (λ (j : ℕ). drop j B) b) (getD-part at k s (i - 1) here) ∙ ap (λ (n : ℕ). n * 256 + getD s (at + (i - 1)) 0) (sym e))
+      sym
+      (ap le (drop-cons B (i - 1) 0 (omega (arith, lB)))
+      ∙ ap₂ (λ (l : List ℕ) (y : ℕ). le l * 256 + y) (ap (λ (j : ℕ). drop j B) b) (getD-part at k s (i - 1) here)
+      ∙ ap (λ (n : ℕ). n * 256 + getD s (at + (i - 1)) 0) (sym e))
 
   pub number-small : (i x : ℕ) → 0 < i → i ≤ k → k ≤ 8 → x ≡ le (drop i B) → x < 2 ^ 56
   number-small i x p q r e =
@@ -71,14 +67,11 @@ module _ (s : List ℕ) (at k : ℕ) (fits : (j : ℕ) → Fits w8 (getD s j 0))
 
 pub length-bytes : (k x : ℕ) → length (bytesOf k x) ≡ k
 unfolding bytesOf
-length-bytes zero x = refl
-length-bytes (suc k) x = ap suc (length-bytes k (x / 256))
+length-bytes = length-digits 8
 
 pub bytes-le : (l : List ℕ) → Bytes l → bytesOf (length l) (le l) ≡ l
-unfolding bytesOf le
-bytes-le [] f = refl
-bytes-le (x ∷ l) f =
-    ap₂ (λ (a : ℕ) (z : List ℕ). a ∷ z) (digits-mod (le l) (f 0)) (ap (bytesOf (length l)) (digits-div (le l) (f 0)) ∙ bytes-le l (λ i. f (suc i)))
+unfolding bytesOf
+bytes-le = digits-number 8
 
 pub bytes-num : (k p : ℕ) (b : List ℕ) → Bytes b → p + k ≤ length b → bytesOf k (num k p b) ≡ take k (drop p b)
 unfolding num
@@ -87,21 +80,8 @@ bytes-num k p b f h =
     ap (λ (j : ℕ). bytesOf j (le (take k (drop p b)))) (sym l) ∙ bytes-le (take k (drop p b)) (bytes-part b p k f)
 
 pub le-bytes : (k x : ℕ) → x < 2 ^ (8 * k) → le (bytesOf k x) ≡ x
-unfolding bytesOf le
-le-bytes zero x h = sym (zero-of x h)
-  where
-    zero-of : (x : ℕ) → x < 2 ^ (8 * 0) → x ≡ 0
-    zero-of x h = omega arith
-le-bytes (suc k) x h =
-    let e : 2 ^ (8 * suc k) ≡ 2 ^ (8 * k) * 2 ^ 8 = ap (λ (j : ℕ). 2 ^ j) (eight k) ∙ pow-add 2 (8 * k) 8 in
-    let q : x / 256 < 2 ^ (8 * k) = div-lt-iff-lt-mul {k = 256} {x = x} {y = 2 ^ (8 * k)} (lit< tt) .1 (subst (λ (n : ℕ). x < n) e h) in
-    ap (λ (y : ℕ). y * 256 + x % 256) (le-bytes k (x / 256) q) ∙ whole x
-  where
-    eight : (k : ℕ) → 8 * suc k ≡ 8 * k + 8
-    eight k = omega arith
-
-    whole : (x : ℕ) → x / 256 * 256 + x % 256 ≡ x
-    whole x = omega arith
+unfolding bytesOf
+le-bytes = number-digits 8
 
 -- a number that stands after q bytes
 pub num-at : (k q x : ℕ) (pre rest : List ℕ) → length pre ≡ q → x < 2 ^ (8 * k) → num k q (pre ++ (bytesOf k x ++ rest)) ≡ x

@@ -2,12 +2,13 @@
 use mathlib.Core.Logic.{_↔_}
 use mathlib.Core.Path.{_≡_, refl, sym, ap, ap₂, _∙_, subst}
 use Prim.Native.Nat.{ℕ, zero, suc, _+_, _-_, _*_, _/_, _%_, _^_, _<_, _≤_}
-use native.Mathlib.Nat.{lt-of-lt-of-le, mod-lt, add-mul, mul-assoc, mul-comm, zero-mul, zero-add, add-comm, suc-add, suc-mul, mod-eq-of-lt, mul-mod-left, add-zero}
+use native.Mathlib.Nat.{lt-of-lt-of-le, mod-lt, add-mul, mul-assoc, mul-comm, zero-mul, zero-add, add-comm, suc-add, suc-mul, mod-eq-of-lt}
 use native.Mathlib.Omega.{arith}
 use lib.Bits.{bitAnd, and-block, and-mask, and-zero-r}
 use lib.Dec.{lit<}
-use lib.Pow.{pow-add, pow-pos, pow-mono, split, high, low, shr-shr, mod-mod-pow, ones-lt, mod-pow-add, shl-shr}
+use lib.Pow.{pow-add, pow-pos, pow-mono, split, high, low, shr-shr, mod-mod-pow, ones-lt, mod-pow-add}
 use lib.Arith.{digits-lt}
+use Rattle.words.proofs.First.{moved-up}
 use Rattle.wire.specs.Kinds.{reversed}
 use Rattle.wire.specs.Swaps.{swapPairs, maskOf}
 
@@ -132,8 +133,8 @@ each-one (suc n) x h =
     whole x = omega arith
 
 -- the six steps
-pub six : (x a b c d e f : ℕ) → x < 2 ^ 64 → a ≡ swapPairs 32 1 x → b ≡ swapPairs 16 2 a → c ≡ swapPairs 8 4 b → d ≡ swapPairs 4 8 c → e ≡ swapPairs 2 16 d → f ≡ swapPairs 1 32 e
-    → f ≡ reversed 64 x
+pub six : (x a b c d e f : ℕ) → x < 2 ^ 64 → a ≡ swapPairs 32 1 x → b ≡ swapPairs 16 2 a → c ≡ swapPairs 8 4 b
+    → d ≡ swapPairs 4 8 c → e ≡ swapPairs 2 16 d → f ≡ swapPairs 1 32 e → f ≡ reversed 64 x
 unfolding revEach
 six x a b c d e f h ea eb ec ed ee ef =
     let a₁ : a ≡ revEach 32 2 x = ea ∙ ap (swapPairs 32 1) (each-one 64 x h) ∙ swap-each 32 1 x in
@@ -258,19 +259,13 @@ none-reversed (suc k) x e =
     second : (a b : ℕ) → a * 2 + b ≡ 0 → b ≡ 0
     second a b e = omega arith
 
--- a word moved up by s keeps its lowest 64 - s bits
-moved : (x s : ℕ) → s < 64 → x * 2 ^ s % 2 ^ 64 ≡ x % 2 ^ (64 - s) * 2 ^ s
-moved x s h =
-    let e : 64 ≡ 64 - s + s = omega arith in
-    ap (λ (k : ℕ). x * 2 ^ s % 2 ^ k) e ∙ mod-pow-add (x * 2 ^ s) (64 - s) s
-    ∙ ap₂ (λ (a b : ℕ). a % 2 ^ (64 - s) * 2 ^ s + b) (shl-shr x s) (mul-mod-left x (2 ^ s)) ∙ add-zero (x % 2 ^ (64 - s) * 2 ^ s)
-
--- so a one past the first s columns of kind 2 shows when the word is moved up
+-- a word moved up by s keeps its lowest 64 - s bits, so a one past the first s columns of kind 2 shows there
 pub past-reversed : (x s : ℕ) → s < 64 → (x * 2 ^ s % 2 ^ 64 ≡ 0) ↔ (reversed 64 x / 2 ^ s ≡ 0)
-past-reversed x s h = (
-  λ z. low-end x s (omega arith) ∙ none-reversed (64 - s) x (divided (x % 2 ^ (64 - s)) (2 ^ s) (pow-pos s) (sym (moved x s h) ∙ z)),
-  λ z. moved x s h ∙ ap (λ (r : ℕ). r * 2 ^ s) (reversed-none (64 - s) x (sym (low-end x s (omega arith)) ∙ z)) ∙ zero-mul (2 ^ s),
-)
+past-reversed x s h =
+    let m : x * 2 ^ s % 2 ^ 64 ≡ x % 2 ^ (64 - s) * 2 ^ s = moved-up x s (omega arith) in (
+      λ z. low-end x s (omega arith) ∙ none-reversed (64 - s) x (divided (x % 2 ^ (64 - s)) (2 ^ s) (pow-pos s) (sym m ∙ z)),
+      λ z. m ∙ ap (λ (r : ℕ). r * 2 ^ s) (reversed-none (64 - s) x (sym (low-end x s (omega arith)) ∙ z)) ∙ zero-mul (2 ^ s),
+    )
   where
     divided : (a p : ℕ) → 0 < p → a * p ≡ 0 → a ≡ 0
     divided zero p h e = refl

@@ -9,16 +9,14 @@ use lib.Dec.{lit<}
 use lib.ListN.{length, getD}
 use lib.Pow.{low, high, field, mod-pow-add, mod-mod-pow, pow-pos, shl-shr, shr-lt, shr-shr}
 use Rattle.gf2.specs.Rows.{_⊕_}
+use Rattle.words.proofs.Digits.{length-digits, fit-digits, number-digits}
 use Rattle.words.specs.Words.{Fit, value, firstWords, windowBits}
 
 pub length-first : (w v : ℕ) → length (firstWords w v) ≡ w
-length-first zero v = refl
-length-first (suc w) v = ap suc (length-first w (v / 2 ^ 64))
+length-first = length-digits 64
 
 pub fit-first : (w v : ℕ) → Fit (firstWords w v)
-fit-first zero v i = lit< tt
-fit-first (suc w) v zero = mod-lt v (pow-pos 64)
-fit-first (suc w) v (suc i) = fit-first w (v / 2 ^ 64) i
+fit-first = fit-digits 64
 
 -- word l is the 64 columns from column 64 l on
 pub getD-first : (w v l : ℕ) → l < w → getD (firstWords w v) l 0 ≡ windowBits (64 * l) 64 v
@@ -30,12 +28,7 @@ getD-first (suc w) v (suc l) h =
 
 -- a number of no more words is held whole
 pub value-first : (w v : ℕ) → v < 2 ^ (64 * w) → value (firstWords w v) ≡ v
-value-first zero v h =
-    let z : v < 1 = subst (λ (e : ℕ). v < 2 ^ e) (mul-zero 64) h in
-    omega arith
-value-first (suc w) v h =
-    let e : 64 * suc w ≡ 64 * w + 64 = omega arith in
-    ap (λ (x : ℕ). x * 2 ^ 64 + v % 2 ^ 64) (value-first w (v / 2 ^ 64) (shr-lt (64 * w) 64 (subst (λ (k : ℕ). v < 2 ^ k) e h))) ∙ div-add-mod' v (2 ^ 64)
+value-first = number-digits 64
 
 -- ---- windows of a shifted row, and of a sum of rows
 

@@ -1,4 +1,5 @@
 -- The laws of words and rows.
+pub mod Digits
 pub mod Parts
 pub mod Value
 pub mod Rows
@@ -6,3 +7,4 @@ pub mod Window
 pub mod First
 pub mod Flat
 pub mod Slices
+pub mod Padding

@@ -17,13 +17,11 @@ use mir.Syntax.{w64}
 use Rattle.gf2.specs.Rows.{bit, _⊕_, part}
 use Rattle.gf2.proofs.Bits.{bit-of-zero, bit-mod, bit-shr, bit-above, below-of-bits}
 use Rattle.words.specs.Words.{wordsOf, Fit, value, xors}
+use Rattle.words.proofs.Digits.{number-lt, one-number}
 use Rattle.words.proofs.Parts.{length-part, getD-part}
 
 pub value-lt : (ws : List ℕ) → Fit ws → value ws < 2 ^ (64 * length ws)
-value-lt [] f = pow-pos (64 * 0)
-value-lt (x ∷ ws) f =
-    let e : 64 * suc (length ws) ≡ 64 * length ws + 64 = omega arith in
-    rw (e, pow-add 2 (64 * length ws) 64) (digits-lt (value-lt ws (λ i. f (suc i))) (f 0))
+value-lt = number-lt 64
 
 -- THEOREM: column c of the row is bit c % 64 of word c / 64
 pub column-bit : (ws : List ℕ) → Fit ws → (c : ℕ) → bit c (value ws) ≡ bit (c % 64) (getD ws (c / 64) 0)
@@ -111,13 +109,7 @@ value-drop (suc a) (x ∷ ws) f =
 
 -- the number and the length fix the words
 pub value-one : (x y : List ℕ) → Fit x → Fit y → length x ≡ length y → value x ≡ value y → x ≡ y
-value-one [] [] fx fy l e = refl
-value-one [] (y ∷ ys) fx fy l e = absurd (omega arith)
-value-one (x ∷ xs) [] fx fy l e = absurd (omega arith)
-value-one (x ∷ xs) (y ∷ ys) fx fy l e =
-    let hd : x ≡ y = sym (low (value xs) 64 (fx 0)) ∙ ap (λ (v : ℕ). v % 2 ^ 64) e ∙ low (value ys) 64 (fy 0) in
-    let tl : value xs ≡ value ys = sym (high (value xs) 64 (fx 0)) ∙ ap (λ (v : ℕ). v / 2 ^ 64) e ∙ high (value ys) 64 (fy 0) in
-    ap₂ _∷_ hd (value-one xs ys (λ i. fx (suc i)) (λ i. fy (suc i)) (omega arith) tl)
+value-one = one-number 64
 
 -- column c of the row at word a of a buffer
 pub part-bit : (m : List ℕ) (a w c : ℕ) → Fit m → c / 64 < w → bit c (value (part a w m)) ≡ bit (c % 64) (getD m (a + c / 64) 0)

@@ -56,8 +56,12 @@ loop-again c =
     let s = c .before .before .before .before .before in
     let f = s .before .before .before in
     let g = f .args in
-    let i : ℕ = s .loop .i in
-    (adjoined-more (g .v) (g .w) (g .rows) (g .columns) (now (g .m)) (now (g .room)) i (s .loop .room) (search needs) (search needs) (s .loop .inv .0) (c .before .before .put .last .0) (c .before .before .put .ensures) (f .pre .0) (f .pre .1) (fits-fit (now (g .m)) (s .before .shared-slice-known .given)) (search needs), search needs, search needs)
+    let i : ℕ = s .loop .i in (
+      adjoined-more (g .v) (g .w) (g .rows) (g .columns) (now (g .m)) (now (g .room)) i (s .loop .room) (search needs) (search needs) (s .loop .inv .0) (c .before .before .put .last .0)
+          (c .before .before .put .ensures) (f .pre .0) (f .pre .1) (fits-fit (now (g .m)) (s .before .shared-slice-known .given)) (search needs),
+      search needs,
+      search needs,
+    )
 
 same-length : tie.Need-same-length Inv-loop μ-loop
 same-length c = search needs

@@ -56,7 +56,8 @@ loop-again c =
     let h : l < g .v = search needs in (
       paste-more (now (g .room)) (s .loop .room) (g .to) (firstWords (g .v) (u ⊕ 2 ^ g .c)) l (c .before .word .result ⊕ c .unit-word .result) (s .loop .inv .0) (search needs)
           (omega (arith, length-first (g .v) (u ⊕ 2 ^ g .c)))
-          (ap₂ (λ (x y : ℕ). x ⊕ y) (c .before .word .ensures ∙ value-word (part (g .at) (g .w) m) l (part-fits m (g .at) (g .w) (fits-fit m (s .before .shared-slice-known .given)))) (c .unit-word .ensures)
+          (ap₂ (λ (x y : ℕ). x ⊕ y) (c .before .word .ensures ∙ value-word (part (g .at) (g .w) m) l (part-fits m (g .at) (g .w) (fits-fit m (s .before .shared-slice-known .given))))
+          (c .unit-word .ensures)
           ∙ window-sum (64 * l) u (2 ^ g .c) ∙ sym (getD-first (g .v) (u ⊕ 2 ^ g .c) l h)),
       search needs,
       search needs,

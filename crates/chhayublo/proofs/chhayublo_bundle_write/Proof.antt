@@ -31,7 +31,9 @@ same-length-2 : tie.Need-same-length-2
 same-length-2 c = search needs
 
 returns-2 : tie.Need-returns-2
-returns-2 c = (length-refused (c .number .ensures) (c .before .before .w2 .given .1) ∙ ap seenLength (c .before .before .before .before .before .before .write .ensures .0), c .before .before .before .before .before .before .write .ensures .1)
+returns-2 c =
+    let w = c .before .before .before .before .before .before .write in
+    (length-refused (c .number .ensures) (c .before .before .w2 .given .1) ∙ ap seenLength (w .ensures .0), w .ensures .1)
 
 pub chhayublo-bundle-write-spec : {M : Type 1} → statement M
 chhayublo-bundle-write-spec =

@@ -49,7 +49,9 @@ same-length-6 : tie.Need-same-length-6
 same-length-6 c = search needs
 
 returns-3 : tie.Need-returns-3
-returns-3 c = let inner = c .before .before .before .before .before .before .before .before .contradiction in (inner .result, inner .ensures, names-refused (c .number .ensures) (c .before .before .v .given .1))
+returns-3 c =
+    let inner = c .before .before .before .before .before .before .before .before .contradiction in
+    (inner .result, inner .ensures, names-refused (c .number .ensures) (c .before .before .v .given .1))
 
 pub chhayublo-contradiction-spec : {M : Type 1} → statement M
 chhayublo-contradiction-spec =

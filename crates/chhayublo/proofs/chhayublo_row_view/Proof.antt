@@ -13,7 +13,10 @@ returns : tie.Need-returns
 returns c = let g = c .before .before .before .args in view-none (g .rows) (g .columns) (g .i) (now (g .m)) (now (c .before .row-view .result)) (c .before .row-view .ensures .0) (c .if1 .taken)
 
 mul-t8 : tie.Need-mul-t8
-mul-t8 c = let g = c .before .before .before .args in omega (arith, view-start (g .rows) (g .columns) (g .i) (now (g .m)) (now (c .before .row-view .result)) (c .before .row-view .ensures .0), c .before .before .before .good .0 .0)
+mul-t8 c =
+    let g = c .before .before .before .args in
+    let v = c .before .row-view in
+    omega (arith, view-start (g .rows) (g .columns) (g .i) (now (g .m)) (now (v .result)) (v .ensures .0), c .before .before .before .good .0 .0)
 
 returns-2 : tie.Need-returns-2
 returns-2 c = let g = c .before .before .before .args in view-some (g .rows) (g .columns) (g .i) (now (g .m)) (now (c .before .row-view .result)) (c .before .row-view .ensures .0) (c .if1 .left)

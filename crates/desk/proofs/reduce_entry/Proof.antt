@@ -30,8 +30,8 @@ cast-r c = search needs
 cast-c : tie.Need-cast-c
 cast-c c = search needs
 
-words-requires : tie.Need-words-requires
-words-requires c κs = search needs
+per-row-requires : tie.Need-per-row-requires
+per-row-requires c κs = search needs
 
 mul-n : tie.Need-mul-n
 mul-n c =
@@ -39,8 +39,8 @@ mul-n c =
     let F = find (g .i) (meaning bothKinds (now (g .bytes))) in
     let rows = c .before .before .t2 .given .0 .1 .0 in
     let columns = c .before .before .t2 .given .0 .1 .1 .0 in
-    let w = c .words .result in
-    let ew = c .words .ensures in
+    let w = c .per-row .result in
+    let ew = c .per-row .ensures in
     let shows = told-shows F (c .before .before .t2 .given .0 .0) rows columns (sym (c .before .before .t2 .given .1) ∙ c .before .before .before .before .entry .ensures) in
     let shape = shows-shape F rows columns shows (found-sound bothKinds (g .i) (now (g .bytes))) in
     record { fits = omega (arith, few-words rows columns w shape ew) }
@@ -51,7 +51,7 @@ returns c =
     let F = find (g .i) (meaning bothKinds (now (g .bytes))) in
     let rows = c .before .before .before .t2 .given .0 .1 .0 in
     let columns = c .before .before .before .t2 .given .0 .1 .1 .0 in
-    let ew = c .before .words .ensures in
+    let ew = c .before .per-row .ensures in
     let shows = told-shows F (c .before .before .before .t2 .given .0 .0) rows columns (sym (c .before .before .before .t2 .given .1) ∙ c .before .before .before .before .before .entry .ensures) in
     unfit (now (g .words)) (now (g .room)) F rows columns shows (inl (subst (λ (n : ℕ). length (now (g .words)) < n) (body-same rows columns ew) (c .if1 .taken)))
 
@@ -64,7 +64,7 @@ returns-2 c =
     let F = find (g .i) (meaning bothKinds (now (g .bytes))) in
     let rows = c .before .before .before .before .t2 .given .0 .1 .0 in
     let columns = c .before .before .before .before .t2 .given .0 .1 .1 .0 in
-    let ew = c .before .before .words .ensures in
+    let ew = c .before .before .per-row .ensures in
     let shows = told-shows F (c .before .before .before .before .t2 .given .0 .0) rows columns (sym (c .before .before .before .before .t2 .given .1) ∙ c .before .before .before .before .before .before .entry .ensures) in
     unfit (now (g .words)) (now (g .room)) F rows columns shows (inr (omega (arith, ew, c .if2 .taken)))
 
@@ -74,7 +74,7 @@ slice-relend-prefix-reduce-fitting c = search needs
 slice-aggregate-reduce-fitting : tie.Need-slice-aggregate-reduce-fitting
 slice-aggregate-reduce-fitting c =
     let g = c .before .before .before .before .before .before .before .before .before .before .before .args in
-    sym (length-take-le (c .before .before .before .before .before .t2 .given .0 .1 .0 * c .before .before .before .words .result) (now (g .words)) (c .before .before .if1 .left))
+    sym (length-take-le (c .before .before .before .before .before .t2 .given .0 .1 .0 * c .before .before .before .per-row .result) (now (g .words)) (c .before .before .if1 .left))
 
 reduce-fitting-requires : tie.Need-reduce-fitting-requires
 reduce-fitting-requires c κs =
@@ -82,8 +82,8 @@ reduce-fitting-requires c κs =
     let F = find (g .i) (meaning bothKinds (now (g .bytes))) in
     let rows = c .before .before .before .before .before .before .t2 .given .0 .1 .0 in
     let columns = c .before .before .before .before .before .before .t2 .given .0 .1 .1 .0 in
-    let w = c .before .before .before .before .words .result in
-    let ew = c .before .before .before .before .words .ensures in
+    let w = c .before .before .before .before .per-row .result in
+    let ew = c .before .before .before .before .per-row .ensures in
     let shows = told-shows F (c .before .before .before .before .before .before .t2 .given .0 .0) rows columns (sym (c .before .before .before .before .before .before .t2 .given .1) ∙ c .before .before .before .before .before .before .before .before .entry .ensures) in
     (shows, length-take-le (rows * w) (now (g .words)) (c .before .before .before .if1 .left) ∙ body-same rows columns ew, omega (arith, ew, c .before .before .if2 .left))
 
@@ -105,8 +105,8 @@ returns-4 c =
     let F = find (g .i) (meaning bothKinds (now (g .bytes))) in
     let rows = c .before .before .before .before .before .before .before .before .before .before .before .t2 .given .0 .1 .0 in
     let columns = c .before .before .before .before .before .before .before .before .before .before .before .t2 .given .0 .1 .1 .0 in
-    let w = c .before .before .before .before .before .before .before .before .before .words .result in
-    let ew = c .before .before .before .before .before .before .before .before .before .words .ensures in
+    let w = c .before .before .before .before .before .before .before .before .before .per-row .result in
+    let ew = c .before .before .before .before .before .before .before .before .before .per-row .ensures in
     let shows = told-shows F (c .before .before .before .before .before .before .before .before .before .before .before .t2 .given .0 .0) rows columns (sym (c .before .before .before .before .before .before .before .before .before .before .before .t2 .given .1) ∙ c .before .before .before .before .before .before .before .before .before .before .before .before .before .entry .ensures) in
     front (now (g .words)) (now (g .room)) F rows columns (rows * w) (c .before .before .before .before .reduce-fitting .result) (c .before .before .before .before .reduce-fitting .last .1 .1 .1 .1 .0) (c .before .before .before .before .reduce-fitting .last .1 .1 .1 .1 .1 .0) shows (body-same rows columns ew) (c .before .before .before .before .before .before .before .before .if1 .left) (omega (arith, ew, c .before .before .before .before .before .before .before .if2 .left)) (c .before .before .before .before .reduce-fitting .ensures)
 
@@ -119,7 +119,7 @@ reduce-entry-spec =
     enum-known-t-2
     cast-r
     cast-c
-    words-requires
+    per-row-requires
     mul-n
     returns
     mul-if2

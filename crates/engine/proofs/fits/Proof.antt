@@ -1,8 +1,8 @@
 -- The checks of shape, and then the two counts and the rows, are the fields of `Fits`.
 use denote.Ref.{now}
-use mathlib.Core.Path.{sym, ap₂, _∙_}
+use mathlib.Core.Path.{_≡_, sym, ap₂, _∙_}
 use Rattle.refusals.specs.Outcome.{_andThen_}
-use Rattle.engine.proofs.Fitting.{wrong-shape, right-shape}
+use Rattle.engine.proofs.Fitting.{checks, wrong-shape, right-shape}
 use borrow.Author.Needs.{needs}
 use Rattle.engine.proofs.fits.Statement.{statement}
 use Rattle.engine.proofs.fits.Tie as tie
@@ -25,8 +25,16 @@ and-then-requires-2 c κs = tt
 number-requires : tie.Need-number-requires
 number-requires c κs = tt
 
+-- the checks together
+checks-are : (c : tie.After-and-then2) → let g = c .before .before .before .before .before .before .args in c .and-then2 .result ≡ checks (g .columns) (g .k) (g .more) (g .room)
+checks-are c =
+    let d = c .before .before in
+    c .and-then2 .ensures ∙ ap₂ _andThen_ (d .and-then .ensures ∙ ap₂ _andThen_ (d .before .before .bad-columns .ensures) (d .before .bad-k .ensures)) (c .before .short-room .ensures)
+
 returns : tie.Need-returns
-returns c = let g = c .before .before .before .before .before .before .before .before .args in wrong-shape (g .rows) (g .columns) (g .k) (g .more) (g .room) (g .list) (now (g .m)) (c .before .before .and-then2 .result) (c .before .before .and-then2 .ensures ∙ ap₂ _andThen_ (c .before .before .before .before .and-then .ensures ∙ ap₂ _andThen_ (c .before .before .before .before .before .before .bad-columns .ensures) (c .before .before .before .before .before .bad-k .ensures)) (c .before .before .before .short-room .ensures)) (λ z. c .if1 .taken (c .before .number .ensures ∙ z))
+returns c =
+    let g = c .before .before .before .before .before .before .before .before .args in
+    wrong-shape (g .rows) (g .columns) (g .k) (g .more) (g .room) (g .list) (now (g .m)) (checks-are (c .before .before)) (λ z. c .if1 .taken (c .before .number .ensures ∙ z))
 
 returns-2 : tie.Need-returns-2
 returns-2 c = search needs
@@ -34,11 +42,15 @@ returns-2 c = search needs
 returns-3 : tie.Need-returns-3
 returns-3 c = search needs
 
-holds-requires : tie.Need-holds-requires
-holds-requires c κs = tt
+hold-rows-requires : tie.Need-hold-rows-requires
+hold-rows-requires c κs = tt
 
 returns-4 : tie.Need-returns-4
-returns-4 c = let g = c .before .before .before .before .before .before .before .before .before .before .before .args in right-shape (g .rows) (g .columns) (g .k) (g .more) (g .room) (g .list) (now (g .m)) (c .before .before .before .before .before .and-then2 .result) (c .before .before .before .before .before .and-then2 .ensures ∙ ap₂ _andThen_ (c .before .before .before .before .before .before .before .and-then .ensures ∙ ap₂ _andThen_ (c .before .before .before .before .before .before .before .before .before .bad-columns .ensures) (c .before .before .before .before .before .before .before .before .bad-k .ensures)) (c .before .before .before .before .before .before .short-room .ensures)) (sym (c .before .before .before .before .number .ensures) ∙ c .before .before .before .if1 .left) (c .before .before .if2 .left) (c .before .if3 .left) (c .holds .result) (c .holds .ensures)
+returns-4 c =
+    let d = c .before .before .before in
+    let g = d .before .before .before .before .before .before .before .before .args in
+    right-shape (g .rows) (g .columns) (g .k) (g .more) (g .room) (g .list) (now (g .m)) (checks-are (d .before .before)) (sym (d .before .number .ensures) ∙ d .if1 .left)
+    (c .before .before .if2 .left) (c .before .if3 .left) (c .hold-rows .result) (c .hold-rows .ensures)
 
 pub fits-spec : {M : Type 1} → statement M
 fits-spec =
@@ -53,5 +65,5 @@ fits-spec =
     returns
     returns-2
     returns-3
-    holds-requires
+    hold-rows-requires
     returns-4)

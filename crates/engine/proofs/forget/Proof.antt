@@ -30,13 +30,15 @@ loop-less : tie.Need-loop-less Inv-loop μ-loop
 loop-less c = search needs
 
 loop-again : tie.Need-loop-again Inv-loop μ-loop
-loop-again c = (made-more (λ j v. v ≡ 65535) 0 (c .before .loop .i) (now (c .before .before .args .cols)) (c .before .loop .cols) 65535 (omega arith) (omega (arith, c .loop-test .taken)) refl (c .before .loop .inv .0), search needs)
+loop-again c =
+    let l = c .before .loop in
+    (made-more (λ j v. v ≡ 65535) 0 (l .i) (now (c .before .before .args .cols)) (l .cols) 65535 (omega arith) (omega (arith, c .loop-test .taken)) refl (l .inv .0), search needs)
 
 same-length : tie.Need-same-length Inv-loop μ-loop
 same-length c = c .before .loop .inv .0 .size
 
 returns : tie.Need-returns Inv-loop μ-loop
-returns c = λ j h. c .before .loop .inv .0 .done j (omega arith) (omega (arith, c .loop-test .left))
+returns c = let m = c .before .loop .inv .0 in λ j h. m .done j (omega arith) (omega (arith, c .loop-test .left, m .size))
 
 pub forget-spec : {M : Type 1} → statement M
 forget-spec =

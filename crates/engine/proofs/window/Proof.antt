@@ -1,15 +1,12 @@
 -- The search foresees the matrix that clearing gives; the table clears each row by its number.
 use denote.Ref.{now}
-use mathlib.Core.Path.{_≡_, refl, _∙_, subst}
-use mathlib.Core.List.{List}
-use Prim.Native.Nat.{ℕ}
-use lib.ListN.{length}
-use Rattle.words.specs.Words.{rowsOf}
-use Rattle.words.proofs.Rows.{length-rows}
-use Rattle.engine.specs.Stage.{Search}
-use Rattle.engine.proofs.Windows.{marks, no-pivots, cleared-all, windowed, no-additions, window-applies, window-rest}
+use mathlib.Core.Path.{_≡_, refl, _∙_}
 use native.Mathlib.Omega.{arith}
 use borrow.Author.Needs.{needs}
+use lib.ListN.{length}
+use Rattle.words.proofs.Rows.{length-rows}
+use Rattle.engine.specs.Stage.{Sizes}
+use Rattle.engine.proofs.Windows.{window-pivots, cleared-all, windowed, windowed-none, no-additions, window-applies, table-rest}
 use Rattle.engine.proofs.window.Statement.{statement}
 use Rattle.engine.proofs.window.Tie as tie
 
@@ -17,89 +14,72 @@ search-requires : tie.Need-search-requires
 search-requires c κs = let p = c .before .before .before .before .before .before .before .before .before .pre in (p .0, p .1, p .2, p .3, p .5, p .6, p .7)
 
 same-length : tie.Need-same-length
-same-length c = c .before .before .before .before .before .before .before .before .before .search .kept .0
+same-length c = search needs
 
 same-length-2 : tie.Need-same-length-2
-same-length-2 c = c .before .before .before .before .before .before .before .before .before .search .kept .1 .1 .1 .1 .1 .1 .0
+same-length-2 c = search needs
 
 same-length-3 : tie.Need-same-length-3
-same-length-3 c = c .before .before .before .before .before .before .before .before .before .search .kept .1 .1 .1 .1 .1 .1 .1 .0
+same-length-3 c = search needs
 
 same-length-4 : tie.Need-same-length-4
-same-length-4 c = c .before .before .before .before .before .before .before .before .before .search .kept .1 .1 .1 .1 .1 .1 .1 .1 .0
+same-length-4 c = search needs
 
 returns : tie.Need-returns
 returns c =
-    let g = c .before .before .before .before .before .before .before .before .before .before .before .before .before .before .before .before .before .before .before .args in
-    let s = c .before .before .before .before .before .before .before .before .before .search in
-    let M : List ℕ = rowsOf (g .w) (g .n) (c .before .before .before .before .before .before .before .before .before .search .last .0) in
-    let S : Search (g .n) (g .c) (g .k) (g .k) (g .base) 0 M (c .before .before .before .before .before .before .before .before .before .search .last .1 .1 .1 .1 .1 .1 .0) (c .before .before .before .before .before .before .before .before .before .search .last .1 .1 .1 .1 .1 .1 .1 .0) (c .before .before .before .before .before .before .before .before .before .search .last .1 .1 .1 .1 .1 .1 .1 .1 .0) = subst (λ (q : ℕ). Search (g .n) (g .c) (g .k) (g .k) (g .base) q M (c .before .before .before .before .before .before .before .before .before .search .last .1 .1 .1 .1 .1 .1 .0) (c .before .before .before .before .before .before .before .before .before .search .last .1 .1 .1 .1 .1 .1 .1 .0) (c .before .before .before .before .before .before .before .before .before .search .last .1 .1 .1 .1 .1 .1 .1 .1 .0)) (c .if1 .taken) (s .ensures .0) in (
-      windowed (g .n) (g .c) (g .k) (g .base) 0 M (c .before .before .before .before .before .before .before .before .before .search .last .1 .1 .1 .1 .1 .1 .0) (c .before .before .before .before .before .before .before .before .before .search .last .1 .1 .1 .1 .1 .1 .1 .0) (c .before .before .before .before .before .before .before .before .before .search .last .1 .1 .1 .1 .1 .1 .1 .1 .0) S (rowsOf (g .w) (g .n) (now (g .m))) M (now (g .cols)) (s .ensures .1)
-          (no-pivots (g .n) (g .c) (g .k) (g .base) 0 M (c .before .before .before .before .before .before .before .before .before .search .last .1 .1 .1 .1 .1 .1 .0) (c .before .before .before .before .before .before .before .before .before .search .last .1 .1 .1 .1 .1 .1 .1 .0) (c .before .before .before .before .before .before .before .before .before .search .last .1 .1 .1 .1 .1 .1 .1 .1 .0) S (length-rows (g .w) (g .n) (c .before .before .before .before .before .before .before .before .before .search .last .0)) refl) (s .ensures .2),
-      s .ensures .3,
-      refl,
-      no-additions,
-    )
+    let s = c .before .before .before .before .before .before .before .before .before in
+    let g = s .before .before .before .before .before .before .before .before .before .before .args in
+    let h = s .search .ensures in
+    let none = windowed-none (h .0) (length-rows (g .w) (g .n) (s .search .last .0)) (c .if1 .taken) (h .1) (h .2) in
+    (none, h .3, refl, no-additions)
 
 numbers-requires : tie.Need-numbers-requires
 numbers-requires c κs =
-    let g = c .before .before .before .before .before .before .before .before .before .before .before .before .before .before .before .before .before .before .before .before .before .before .args in
-    let p = c .before .before .before .before .before .before .before .before .before .before .before .before .before .before .before .before .before .before .before .before .before .before .pre in
-    let S = c .before .before .before .before .before .before .before .before .before .before .before .before .search .ensures .0 in
-    let lm : length (c .before .before .before .before .before .before .before .before .before .before .before .before .search .last .0) ≡ length (now (g .m)) = c .before .before .before .before .before .before .before .before .before .before .before .before .search .kept .0 in (
-      record { fits = omega (arith, p .0 .fits); narrow = p .0 .narrow; few = p .0 .few },
-      p .1,
-      p .2,
-      p .3,
-      S .few,
-      S .room,
-      S .long-h,
-      S .whole,
-      marks (g .n) (g .c) (g .k) (g .base) (c .before .before .before .before .before .before .before .before .before .before .before .before .search .result) (rowsOf (g .w) (g .n) (c .before .before .before .before .before .before .before .before .before .before .before .before .search .last .0)) (c .before .before .before .before .before .before .before .before .before .before .before .before .search .last .1 .1 .1 .1 .1 .1 .0) (c .before .before .before .before .before .before .before .before .before .before .before .before .search .last .1 .1 .1 .1 .1 .1 .1 .0) (c .before .before .before .before .before .before .before .before .before .before .before .before .search .last .1 .1 .1 .1 .1 .1 .1 .1 .0) S,
-      S .has,
-    )
+    let s = c .before .before .before .before .before .before .before .before .before .before .before .before in
+    let g = s .before .before .before .before .before .before .before .before .before .before .args in
+    let p = s .before .before .before .before .before .before .before .before .before .before .pre in
+    let S = s .search .ensures .0 in
+    let size : length (s .search .last .0) ≡ length (now (g .m)) = s .search .kept .0 in
+    let sizes : Sizes (g .w) (g .n) (length (s .search .last .0)) = record { fits = omega (arith, p .0 .fits); narrow = p .0 .narrow; few = p .0 .few } in
+    (sizes, p .1, p .2, p .3, S .few, S .room, S .long-h, S .whole, window-pivots S, S .has)
 
 sub-apply : tie.Need-sub-apply
 sub-apply c = search needs
 
 apply-requires : tie.Need-apply-requires
 apply-requires c κs =
-    let g = c .before .before .before .before .before .before .before .before .before .before .before .before .before .before .before .before .before .before .before .before .before .before .before .before .before .before .before .before .args in
-    let p = c .before .before .before .before .before .before .before .before .before .before .before .before .before .before .before .before .before .before .before .before .before .before .before .before .before .before .before .before .pre in
-    let s = c .before .before .before .before .before .before .before .before .before .before .before .before .before .before .before .before .before .before .search in
-    let u = c .before .before .before .before .before .numbers in
-    (window-applies (g .w) (g .n) (g .c) (g .k) (g .base) (s .result) (now (g .m)) (s .last .0) (now (g .t)) (s .last .1 .1 .1 .1 .1 .1 .0) (s .last .1 .1 .1 .1 .1 .1 .1 .0) (s .last .1 .1 .1 .1 .1 .1 .1 .1 .0) (p .0) (s .kept .0) (p .1) (p .3) (p .4) (s .ensures .0) (u .last .1 .1 .1 .1 .1 .1 .1 .0) (u .kept .1 .1 .1 .1 .1 .1 .1 .0) (u .ensures .small), p .8)
+    let u = c .before .before .before .before .before in
+    let s = u .before .before .before .before .before .before .before .before .before .before .before .before .before in
+    let p = s .before .before .before .before .before .before .before .before .before .before .pre in
+    let kept = u .numbers .kept .1 .1 .1 .1 .1 .1 .1 .0 in
+    (window-applies (p .0) (s .search .kept .0) (p .1) (p .3) (p .4) (s .search .ensures .0) kept (u .numbers .ensures .small), p .8)
 
 same-length-5 : tie.Need-same-length-5
-same-length-5 c = c .before .before .before .before .apply .kept .1 .0 ∙ c .before .before .before .before .before .before .before .before .before .before .before .before .before .before .before .before .before .before .before .before .before .before .before .search .kept .0
+same-length-5 c = search needs
 
 same-length-6 : tie.Need-same-length-6
-same-length-6 c = c .before .before .before .before .apply .kept .1 .1 .0
+same-length-6 c = search needs
 
 same-length-7 : tie.Need-same-length-7
-same-length-7 c = c .before .before .before .before .before .before .before .before .before .before .numbers .kept .1 .1 .1 .1 .1 .1 .1 .0 ∙ c .before .before .before .before .before .before .before .before .before .before .before .before .before .before .before .before .before .before .before .before .before .before .before .search .kept .1 .1 .1 .1 .1 .1 .0
+same-length-7 c = search needs
 
 same-length-8 : tie.Need-same-length-8
-same-length-8 c = c .before .before .before .before .before .before .before .before .before .before .before .before .before .before .before .before .before .before .before .before .before .before .before .search .kept .1 .1 .1 .1 .1 .1 .1 .0
+same-length-8 c = search needs
 
 same-length-9 : tie.Need-same-length-9
-same-length-9 c = c .before .before .before .before .before .before .before .before .before .before .before .before .before .before .before .before .before .before .before .before .before .before .before .search .kept .1 .1 .1 .1 .1 .1 .1 .1 .0
+same-length-9 c = search needs
 
 returns-2 : tie.Need-returns-2
 returns-2 c =
-    let g = c .before .before .before .before .before .before .before .before .before .before .before .before .before .before .before .before .before .before .before .before .before .before .before .before .before .before .before .before .before .before .before .before .before .args in
-    let p = c .before .before .before .before .before .before .before .before .before .before .before .before .before .before .before .before .before .before .before .before .before .before .before .before .before .before .before .before .before .before .before .before .before .pre in
-    let s = c .before .before .before .before .before .before .before .before .before .before .before .before .before .before .before .before .before .before .before .before .before .before .before .search in
-    let r = s .result in
-    let M : List ℕ = rowsOf (g .w) (g .n) (c .before .before .before .before .before .before .before .before .before .before .before .before .before .before .before .before .before .before .before .before .before .before .before .search .last .0) in
-    let S : Search (g .n) (g .c) (g .k) (g .k) (g .base) r M (c .before .before .before .before .before .before .before .before .before .before .before .before .before .before .before .before .before .before .before .before .before .before .before .search .last .1 .1 .1 .1 .1 .1 .0) (c .before .before .before .before .before .before .before .before .before .before .before .before .before .before .before .before .before .before .before .before .before .before .before .search .last .1 .1 .1 .1 .1 .1 .1 .0) (c .before .before .before .before .before .before .before .before .before .before .before .before .before .before .before .before .before .before .before .before .before .before .before .search .last .1 .1 .1 .1 .1 .1 .1 .1 .0) = s .ensures .0 in
-    let a = c .before .before .before .before .apply .ensures in (
-      windowed (g .n) (g .c) (g .k) (g .base) r M (c .before .before .before .before .before .before .before .before .before .before .before .before .before .before .before .before .before .before .before .before .before .before .before .search .last .1 .1 .1 .1 .1 .1 .0) (c .before .before .before .before .before .before .before .before .before .before .before .before .before .before .before .before .before .before .before .before .before .before .before .search .last .1 .1 .1 .1 .1 .1 .1 .0) (c .before .before .before .before .before .before .before .before .before .before .before .before .before .before .before .before .before .before .before .before .before .before .before .search .last .1 .1 .1 .1 .1 .1 .1 .1 .0) S (rowsOf (g .w) (g .n) (now (g .m))) (rowsOf (g .w) (g .n) (c .before .before .before .before .apply .last .1 .0)) (now (g .cols)) (s .ensures .1)
-          (a .now .rows ∙ cleared-all (g .n) (g .c) (g .k) (g .base) r M (c .before .before .before .before .before .before .before .before .before .before .before .before .before .before .before .before .before .before .before .before .before .before .before .search .last .1 .1 .1 .1 .1 .1 .0) (c .before .before .before .before .before .before .before .before .before .before .before .before .before .before .before .before .before .before .before .before .before .before .before .search .last .1 .1 .1 .1 .1 .1 .1 .0) (c .before .before .before .before .before .before .before .before .before .before .before .before .before .before .before .before .before .before .before .before .before .before .before .search .last .1 .1 .1 .1 .1 .1 .1 .1 .0) S (c .before .before .before .before .before .before .before .before .before .before .numbers .last .1 .1 .1 .1 .1 .1 .1 .0) (length-rows (g .w) (g .n) (c .before .before .before .before .before .before .before .before .before .before .before .before .before .before .before .before .before .before .before .before .before .before .before .search .last .0)) (c .before .before .before .before .before .before .before .before .before .before .numbers .ensures)) (s .ensures .2),
-      a .now .past ∙ s .ensures .3,
-      window-rest (g .w) (g .n) (g .c) (g .k) (g .base) r (now (g .m)) (s .last .0) (now (g .t)) (s .last .1 .1 .1 .1 .1 .1 .0) (s .last .1 .1 .1 .1 .1 .1 .1 .0) (s .last .1 .1 .1 .1 .1 .1 .1 .1 .0) (p .0) (s .kept .0) (p .1) (p .3) (p .4) S (c .before .before .before .before .apply .last .1 .1 .0) (a .rest),
-      a .count,
-    )
+    let a = c .before .before .before .before in
+    let u = a .before .before .before .before .before .before in
+    let s = u .before .before .before .before .before .before .before .before .before .before .before .before .before in
+    let g = s .before .before .before .before .before .before .before .before .before .before .args in
+    let h = s .search .ensures in
+    let r = a .apply .ensures in
+    let clear = cleared-all (h .0) (length-rows (g .w) (g .n) (s .search .last .0)) (u .numbers .ensures) in
+    let rest = table-rest (s .search .result) (g .k) (g .w) (a .apply .last .1 .1 .0) (now (g .t)) (h .0 .few) (r .rest) in
+    (windowed (h .0) (h .1) (r .now .rows ∙ clear) (h .2), r .now .past ∙ h .3, rest, r .count)
 
 pub window-spec : {M : Type 1} → statement M
 window-spec =

@@ -1,8 +1,10 @@
--- Refused, or the windows are done and their answer is handed on.
+-- The checks refuse, or what passing means is handed on.
 use denote.Ref.{now}
-use Prim.Native.Nat.{ℕ}
-use lib.ListN.{replicate, length-replicate}
-use Rattle.matrix.proofs.Calls.{reduce-refused, reduce-done}
+use mathlib.Core.Path.{_≡_, refl, sym, _∙_}
+use lib.ListN.{length}
+use Rattle.refusals.specs.declared.Outcome.the-variants.{Done}
+use Rattle.refusals.proofs.Chain.{promise-stopped, promise-past}
+use Rattle.refusals.proofs.Passed.{reduction-passed}
 use borrow.Author.Needs.{needs}
 use Rattle.matrix.proofs.reduce.Statement.{statement}
 use Rattle.matrix.proofs.reduce.Tie as tie
@@ -19,24 +21,20 @@ refused-requires c κs = search needs
 enum-told : tie.Need-enum-told
 enum-told c = search needs
 
-slice-aggregate-eliminate : tie.Need-slice-aggregate-eliminate
-slice-aggregate-eliminate c = search needs
-
-eliminate-requires : tie.Need-eliminate-requires
-eliminate-requires c κs = search needs
-
-told-requires : tie.Need-told-requires
-told-requires c κs = search needs
+reduce-passed-requires : tie.Need-reduce-passed-requires
+reduce-passed-requires c κs =
+    let g = c .before .before .before .before .before .before .before .before .args in
+    let o = c .before .before .before .before .reduction in
+    let passed : o .result ≡ Done = search needs in
+    reduction-passed (g .rows) (g .columns) (g .k) (now (g .m)) (length (now (g .room))) (sym (o .ensures) ∙ passed)
 
 same-length : tie.Need-same-length
 same-length c = search needs
 
 returns : tie.Need-returns
 returns c =
-    let b = c .before .before .before .before in
-    let g = b .before .before .before .before .args in
-    reduce-refused (g .rows) (g .columns) (g .k) (now (g .m)) (now (g .room)) (b .reduction .result) {x = c .before .before .o .given .0 .0} (c .refused .result)
-    (search needs) (search needs) (search needs)
+    let o = c .before .before .before .before .reduction in
+    promise-stopped (o .result) (search needs) (c .before .before .o .given .0 .0) (search needs) (search needs, refl, refl)
 
 same-length-2 : tie.Need-same-length-2
 same-length-2 c = search needs
@@ -46,12 +44,8 @@ same-length-3 c = search needs
 
 returns-2 : tie.Need-returns-2
 returns-2 c =
-    let e = c .before .before .before .before .before .before in
-    let b = e .before .before .before .before .before .before in
-    let g = b .before .before .before .before .args in
-    reduce-done (g .rows) (g .columns) (g .k) (now (g .m)) (now (g .room)) (b .reduction .result) (e .eliminate .result .done) (e .eliminate .result .rank)
-    (e .eliminate .result .additions) (replicate 512 65535) (e .eliminate .last .0) (e .eliminate .last .1 .0) (e .eliminate .last .1 .1 .1 .1 .1 .0) (c .told .result)
-    (search needs) (search needs) (length-replicate {A = ℕ} 512 65535) (search needs) (search needs) (search needs)
+    let o = c .before .before .before .before .before .before .before .before .before .reduction in
+    promise-past (o .result) (search needs) (search needs) (search needs)
 
 pub reduce-spec : {M : Type 1} → statement M
 reduce-spec =
@@ -61,9 +55,7 @@ reduce-spec =
     enum-known-o
     refused-requires
     enum-told
-    slice-aggregate-eliminate
-    eliminate-requires
-    told-requires
+    reduce-passed-requires
     same-length
     returns
     same-length-2

@@ -24,28 +24,28 @@ part-result-end c = search needs
 enum-told : tie.Need-enum-told
 enum-told c = search needs
 
-words-requires : tie.Need-words-requires
-words-requires c κs = search needs
+per-row-requires : tie.Need-per-row-requires
+per-row-requires c κs = search needs
 
 mul-a : tie.Need-mul-a
 mul-a c =
     let b = c .before .before .before in
     let g = b .before .before .args in
-    let ends = view-ends (g .rows) (g .columns) (g .i) (now (g .m)) (b .view .result) (search needs) (c .words .result) (search needs) (search needs) in
+    let ends = view-ends (g .rows) (g .columns) (g .i) (now (g .m)) (b .view .result) (search needs) (c .per-row .result) (search needs) (search needs) in
     omega (arith, b .before .before .good .0 .0)
 
 add-e : tie.Need-add-e
 add-e c =
     let b = c .before .before .before in
     let g = b .before .before .args in
-    let ends = view-ends (g .rows) (g .columns) (g .i) (now (g .m)) (b .view .result) (search needs) (c .words .result) (search needs) (search needs) in
+    let ends = view-ends (g .rows) (g .columns) (g .i) (now (g .m)) (b .view .result) (search needs) (c .per-row .result) (search needs) (search needs) in
     omega (arith, b .before .before .good .0 .0)
 
 mul-result : tie.Need-mul-result
 mul-result c =
     let b = c .before .before .before in
     let g = b .before .before .args in
-    let ends = view-ends (g .rows) (g .columns) (g .i) (now (g .m)) (b .view .result) (search needs) (c .words .result) (search needs) (search needs) in
+    let ends = view-ends (g .rows) (g .columns) (g .i) (now (g .m)) (b .view .result) (search needs) (c .per-row .result) (search needs) (search needs) in
     omega (arith, b .before .before .good .0 .0)
 
 sub-result-2 : tie.Need-sub-result-2
@@ -58,7 +58,7 @@ part-result-end-2 : tie.Need-part-result-end-2
 part-result-end-2 c =
     let b = c .before .before .before in
     let g = b .before .before .args in
-    let ends = view-ends (g .rows) (g .columns) (g .i) (now (g .m)) (b .view .result) (search needs) (c .words .result) (search needs) (search needs) in
+    let ends = view-ends (g .rows) (g .columns) (g .i) (now (g .m)) (b .view .result) (search needs) (c .per-row .result) (search needs) (search needs) in
     omega (arith, b .before .before .good .0 .0)
 
 returns : tie.Need-returns
@@ -74,7 +74,7 @@ returns-2 : tie.Need-returns-2
 returns-2 c =
     let b = c .before .before .before .before in
     let g = b .before .before .args in
-    let w = c .before .words .result in
+    let w = c .before .per-row .result in
     let shown = view-shown (g .rows) (g .columns) (g .i) (now (g .m)) (b .view .result) (search needs) w (search needs) (search needs) in
     let place = shown-place (g .rows) (g .columns) (g .i) (now (g .m)) (b .view .result) (search needs) w (ptr (g .m) .1) (search needs) (search needs) in
     (search needs, (search needs, search needs))
@@ -89,7 +89,7 @@ row-view-spec =
     part-result-start
     part-result-end
     enum-told
-    words-requires
+    per-row-requires
     mul-a
     add-e
     mul-result

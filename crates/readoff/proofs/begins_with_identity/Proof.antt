@@ -22,13 +22,22 @@ loop-holds : tie.Need-loop-holds Inv-loop μ-loop
 loop-holds c = ((λ j l. absurd (omega arith)), search needs)
 
 mul-is-unit : tie.Need-mul-is-unit Inv-loop μ-loop
-mul-is-unit c = let g = c .before .before .before .args in omega (arith, row-end (now (g .m)) (g .w) (g .n) (c .before .loop .i) (search needs) (search needs), c .before .before .before .good .0 .0)
+mul-is-unit c =
+    let s = c .before .before .before in
+    let g = s .args in
+    omega (arith, row-end (now (g .m)) (g .w) (g .n) (c .before .loop .i) (search needs) (search needs), s .good .0 .0)
 
 is-unit-requires : tie.Need-is-unit-requires Inv-loop μ-loop
-is-unit-requires c κs = let g = c .before .before .before .args in (row-end (now (g .m)) (g .w) (g .n) (c .before .loop .i) (search needs) (search needs), search needs, search needs, search needs)
+is-unit-requires c κs =
+    let g = c .before .before .before .args in
+    (row-end (now (g .m)) (g .w) (g .n) (c .before .loop .i) (search needs) (search needs), search needs, search needs, search needs)
 
 returns : tie.Need-returns Inv-loop μ-loop
-returns c = let g = c .before .before .before .before .before .args in unit-fails (g .n) (g .w) (now (g .m)) (c .before .before .before .loop .i) (search needs) (sym (c .before .is-unit .ensures) ∙ not-true (c .before .is-unit .result) (c .if1 .taken))
+returns c =
+    let s = c .before .before .before in
+    let g = s .before .before .args in
+    let u = c .before .is-unit in
+    unit-fails (g .n) (g .w) (now (g .m)) (s .loop .i) (search needs) (sym (u .ensures) ∙ not-true (u .result) (c .if1 .taken))
 
 add-i : tie.Need-add-i Inv-loop μ-loop
 add-i c = search needs
@@ -37,7 +46,11 @@ loop-less : tie.Need-loop-less Inv-loop μ-loop
 loop-less c = search needs
 
 loop-again : tie.Need-loop-again Inv-loop μ-loop
-loop-again c = let g = c .before .before .before .before .before .args in (unit-turn (g .n) (g .w) (now (g .m)) (c .before .before .before .loop .i) (search needs) (c .before .before .before .loop .inv .0) (sym (c .before .is-unit .ensures) ∙ not-false (c .before .is-unit .result) (c .if1 .left)), search needs)
+loop-again c =
+    let s = c .before .before .before in
+    let g = s .before .before .args in
+    let u = c .before .is-unit in
+    (unit-turn (g .n) (g .w) (now (g .m)) (s .loop .i) (search needs) (s .loop .inv .0) (sym (u .ensures) ∙ not-false (u .result) (c .if1 .left)), search needs)
 
 returns-2 : tie.Need-returns-2 Inv-loop μ-loop
 returns-2 c =

@@ -17,9 +17,12 @@ next-one-requires c κs = search needs
 
 returns : tie.Need-returns
 returns c =
-    let g = c .before .before .before .args in
+    let s = c .before .before in
+    let g = s .before .args in
     let u : ℕ = value (part (g .at) (g .w) (now (g .m))) in
-    sym (ne-eqb (u % 2 ^ g .n) (2 ^ g .j) (unit-elsewhere (64 * g .w) u (c .before .next-one .result) (part-narrow (now (g .m)) (g .at) (g .w) (fits-fit (now (g .m)) (c .before .before .shared-slice-known .given)) (search needs)) (c .before .next-one .ensures) (g .n) (g .j) (search needs) (search needs) (search needs)))
+    let narrow = part-narrow (now (g .m)) (g .at) (g .w) (fits-fit (now (g .m)) (s .shared-slice-known .given)) (search needs) in
+    let q = c .before .next-one in
+    sym (ne-eqb (u % 2 ^ g .n) (2 ^ g .j) (unit-elsewhere (64 * g .w) u (q .result) narrow (q .ensures) (g .n) (g .j) (search needs) (search needs) (search needs)))
 
 add-next-one : tie.Need-add-next-one
 add-next-one c = search needs
@@ -29,9 +32,13 @@ next-one-requires-2 c κs = search needs
 
 returns-2 : tie.Need-returns-2
 returns-2 c =
-    let g = c .before .before .before .before .args in
+    let s = c .before .before .before in
+    let g = s .before .args in
     let u : ℕ = value (part (g .at) (g .w) (now (g .m))) in
-    unit-test (64 * g .w) u (c .before .before .next-one .result) (part-narrow (now (g .m)) (g .at) (g .w) (fits-fit (now (g .m)) (c .before .before .before .shared-slice-known .given)) (search needs)) (c .before .before .next-one .ensures) (g .n) (g .j) (search needs) (search needs) (c .next-one2 .result) (c .next-one2 .ensures) (search needs)
+    let narrow = part-narrow (now (g .m)) (g .at) (g .w) (fits-fit (now (g .m)) (s .shared-slice-known .given)) (search needs) in
+    let q = c .before .before .next-one in
+    let q₂ = c .next-one2 in
+    unit-test (64 * g .w) u (q .result) narrow (q .ensures) (g .n) (g .j) (search needs) (search needs) (q₂ .result) (q₂ .ensures) (search needs)
 
 pub is-unit-spec : {M : Type 1} → statement M
 is-unit-spec =

@@ -24,7 +24,10 @@ loop-holds : tie.Need-loop-holds Inv-loop μ-loop
 loop-holds c = ((λ j l. absurd (omega arith)), search needs)
 
 mul-next-one : tie.Need-mul-next-one Inv-loop μ-loop
-mul-next-one c = let g = c .before .before .before .args in omega (arith, row-end (now (g .m)) (g .w) (g .rows) (c .before .loop .i) (search needs) (search needs), c .before .before .before .good .0 .0)
+mul-next-one c =
+    let s = c .before .before .before in
+    let g = s .args in
+    omega (arith, row-end (now (g .m)) (g .w) (g .rows) (c .before .loop .i) (search needs) (search needs), s .good .0 .0)
 
 next-one-requires : tie.Need-next-one-requires Inv-loop μ-loop
 next-one-requires c κs = let g = c .before .before .before .args in (row-end (now (g .m)) (g .w) (g .rows) (c .before .loop .i) (search needs) (search needs), search needs, search needs)
@@ -34,12 +37,15 @@ stands-in-requires c κs = search needs
 
 returns : tie.Need-returns Inv-loop μ-loop
 returns c =
-    let g = c .before .before .before .before .before .before .args in
-    let i : ℕ = c .before .before .before .before .loop .i in
+    let s = c .before .before .before .before in
+    let g = s .before .before .args in
+    let fit = fits-fit (now (g .m)) (s .before .shared-slice-known .given) in
+    let q = c .before .before .next-one in
+    let e = row-inside (now (g .m)) (g .w) (g .rows) (s .loop .i) fit (search needs) (search needs) (g .a) (g .e) (q .result) (search needs) (q .ensures) in
     record {
-      to = omega (arith, length-rows (g .w) (g .rows) (now (g .m)), c .before .before .before .before .loop .inv .1);
-      before = c .before .before .before .before .loop .inv .0;
-      here = λ l. row-inside (now (g .m)) (g .w) (g .rows) i (fits-fit (now (g .m)) (c .before .before .before .before .before .shared-slice-known .given)) (search needs) (search needs) (g .a) (g .e) (c .before .before .next-one .result) (search needs) (c .before .before .next-one .ensures) ∙ sym (c .before .stands-in .ensures) ∙ c .if1 .taken;
+      to = omega (arith, length-rows (g .w) (g .rows) (now (g .m)), s .loop .inv .1);
+      before = s .loop .inv .0;
+      here = λ l. e ∙ sym (c .before .stands-in .ensures) ∙ c .if1 .taken;
     }
 
 add-i : tie.Need-add-i Inv-loop μ-loop
@@ -50,9 +56,13 @@ loop-less c = search needs
 
 loop-again : tie.Need-loop-again Inv-loop μ-loop
 loop-again c =
-    let g = c .before .before .before .before .before .before .args in
-    let i : ℕ = c .before .before .before .before .loop .i in
-    (passed (g .a) (g .e) (rowsOf (g .w) (g .rows) (now (g .m))) i (c .before .before .before .before .loop .inv .0) (row-inside (now (g .m)) (g .w) (g .rows) i (fits-fit (now (g .m)) (c .before .before .before .before .before .shared-slice-known .given)) (search needs) (search needs) (g .a) (g .e) (c .before .before .next-one .result) (search needs) (c .before .before .next-one .ensures) ∙ sym (c .before .stands-in .ensures) ∙ c .if1 .left), search needs)
+    let s = c .before .before .before .before in
+    let g = s .before .before .args in
+    let fit = fits-fit (now (g .m)) (s .before .shared-slice-known .given) in
+    let q = c .before .before .next-one in
+    let e = row-inside (now (g .m)) (g .w) (g .rows) (s .loop .i) fit (search needs) (search needs) (g .a) (g .e) (q .result) (search needs) (q .ensures) in
+    let elsewhere = e ∙ sym (c .before .stands-in .ensures) ∙ c .if1 .left in
+    (passed (g .a) (g .e) (rowsOf (g .w) (g .rows) (now (g .m))) (s .loop .i) (s .loop .inv .0) elsewhere, search needs)
 
 returns-2 : tie.Need-returns-2 Inv-loop μ-loop
 returns-2 c =

@@ -1,6 +1,7 @@
 -- The two tests in order.
 use mathlib.Core.Path.{ap₂, _∙_}
 use Rattle.refusals.specs.Outcome.{_andThen_}
+use Rattle.refusals.specs.Checks.{badColumns}
 use Rattle.refusals.proofs.bad_columns.Statement.{statement}
 use Rattle.refusals.proofs.bad_columns.Tie as tie
 
@@ -14,6 +15,7 @@ and-then-requires : tie.Need-and-then-requires
 and-then-requires c κs = tt
 
 returns : tie.Need-returns
+unfolding badColumns
 returns c = c .and-then .ensures ∙ ap₂ _andThen_ (c .before .before .refuse-if .ensures) (c .before .refuse-if2 .ensures)
 
 pub bad-columns-spec : {M : Type 1} → statement M

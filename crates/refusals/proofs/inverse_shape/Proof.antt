@@ -1,58 +1,48 @@
 -- The checks in order.
-use Rattle.refusals.specs.Outcome.{_andThen_}
-use mathlib.Core.Path.{ap₂, _∙_}
 use Rattle.refusals.proofs.inverse_shape.Statement.{statement}
 use Rattle.refusals.proofs.inverse_shape.Tie as tie
 
-too-many-rows-requires : tie.Need-too-many-rows-requires
-too-many-rows-requires c κs = tt
-
-bad-columns-requires : tie.Need-bad-columns-requires
-bad-columns-requires c κs = tt
-
-and-then-requires : tie.Need-and-then-requires
-and-then-requires c κs = tt
+sizes-requires : tie.Need-sizes-requires
+sizes-requires c κs = tt
 
 not-square-requires : tie.Need-not-square-requires
 not-square-requires c κs = tt
 
-and-then-requires-2 : tie.Need-and-then-requires-2
-and-then-requires-2 c κs = tt
+and-then-requires : tie.Need-and-then-requires
+and-then-requires c κs = tt
 
 bad-k-requires : tie.Need-bad-k-requires
 bad-k-requires c κs = tt
 
-and-then-requires-3 : tie.Need-and-then-requires-3
-and-then-requires-3 c κs = tt
+and-then-requires-2 : tie.Need-and-then-requires-2
+and-then-requires-2 c κs = tt
 
 wrong-length-requires : tie.Need-wrong-length-requires
 wrong-length-requires c κs = tt
 
-and-then-requires-4 : tie.Need-and-then-requires-4
-and-then-requires-4 c κs = tt
+and-then-requires-3 : tie.Need-and-then-requires-3
+and-then-requires-3 c κs = tt
 
 wrong-buffer-requires : tie.Need-wrong-buffer-requires
 wrong-buffer-requires c κs = tt
 
-and-then-requires-5 : tie.Need-and-then-requires-5
-and-then-requires-5 c κs = tt
+and-then-requires-4 : tie.Need-and-then-requires-4
+and-then-requires-4 c κs = tt
 
 returns : tie.Need-returns
-returns c = c .and-then5 .ensures ∙ ap₂ _andThen_ (c .before .before .and-then4 .ensures ∙ ap₂ _andThen_ (c .before .before .before .before .and-then3 .ensures ∙ ap₂ _andThen_ (c .before .before .before .before .before .before .and-then2 .ensures ∙ ap₂ _andThen_ (c .before .before .before .before .before .before .before .before .and-then .ensures ∙ ap₂ _andThen_ (c .before .before .before .before .before .before .before .before .before .before .too-many-rows .ensures) (c .before .before .before .before .before .before .before .before .before .bad-columns .ensures)) (c .before .before .before .before .before .before .before .not-square .ensures)) (c .before .before .before .before .before .bad-k .ensures)) (c .before .before .before .wrong-length .ensures)) (c .before .wrong-buffer .ensures)
+returns c = cc
 
 pub inverse-shape-spec : {M : Type 1} → statement M
 inverse-shape-spec =
     tie.close
     (tie.spec
-    too-many-rows-requires
-    bad-columns-requires
-    and-then-requires
+    sizes-requires
     not-square-requires
-    and-then-requires-2
+    and-then-requires
     bad-k-requires
-    and-then-requires-3
+    and-then-requires-2
     wrong-length-requires
-    and-then-requires-4
+    and-then-requires-3
     wrong-buffer-requires
-    and-then-requires-5
+    and-then-requires-4
     returns)

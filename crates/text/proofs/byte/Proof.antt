@@ -1,5 +1,4 @@
 -- A byte is put, or there is no room for it.
-use denote.Ref.{now}
 use Rattle.text.proofs.Putting.{put-byte, put-full}
 use borrow.Author.Needs.{needs}
 use Rattle.text.proofs.byte.Statement.{statement}
@@ -15,10 +14,10 @@ same-length : tie.Need-same-length
 same-length c = search needs
 
 returns : tie.Need-returns
-returns c = let g = c .before .args in put-byte (g .p) (g .x) (now (g .out)) (c .if1 .taken)
+returns c = search put-byte
 
 returns-2 : tie.Need-returns-2
-returns-2 c = let g = c .before .args in put-full (g .p) (g .x) (now (g .out)) (c .if1 .left)
+returns-2 c = search put-full
 
 pub byte-spec : {M : Type 1} → statement M
 byte-spec = tie.close (tie.spec slice-write-out add-result same-length returns returns-2)

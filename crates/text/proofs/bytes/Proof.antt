@@ -1,12 +1,10 @@
 -- One byte after the other.
-use denote.Ref.{now}
-use mathlib.Core.List.{[]}
-use Prim.Native.Nat.{ℕ, _-_, _≤_}
-use mathlib.Core.Path.{_≡_, refl, sym, ap, _∙_, subst}
+use Prim.Native.Nat.{_-_, _≤_}
+use mathlib.Core.Path.{_≡_, refl}
 use lib.ListN.{length, take}
 use borrow.Author.Needs.{needs}
 use Rattle.text.specs.Put.{Put}
-use Rattle.text.proofs.Putting.{put-none, put-more, put-whole, length-over}
+use Rattle.text.proofs.Putting.{put-none, put-more, put-whole, put-length}
 use Rattle.text.proofs.bytes.Statement.{statement}
 use Rattle.text.proofs.bytes.Tie as tie
 
@@ -20,7 +18,7 @@ start-requires : tie.Need-start-requires Inv-loop μ-loop
 start-requires c κs = search needs
 
 loop-holds : tie.Need-loop-holds Inv-loop μ-loop
-loop-holds c = let g = c .before .before .before .args in (search needs, subst (λ (r : ℕ). Put (g .p) [] (now (g .out)) r (now (g .out))) (sym (c .start .ensures)) (put-none (g .p) (now (g .out))), refl)
+loop-holds c = (search needs, search put-none, refl)
 
 shared-slice-read-byte : tie.Need-shared-slice-read-byte Inv-loop μ-loop
 shared-slice-read-byte c = search needs
@@ -35,13 +33,13 @@ loop-less : tie.Need-loop-less Inv-loop μ-loop
 loop-less c = search needs
 
 loop-again : tie.Need-loop-again Inv-loop μ-loop
-loop-again c = let g = c .before .before .before .before .before .before .before .before .before .before .args in (search needs, put-more (now (g .text)) (c .before .before .before .before .before .loop-test .taken) refl (c .before .before .before .before .before .before .loop .inv .1) (c .before .before .byte .ensures), ap length (c .before .before .byte .ensures .holds) ∙ length-over _ _ _ ∙ c .before .before .before .before .before .before .loop .inv .2)
+loop-again c = (search needs, search put-more, search put-length)
 
 same-length : tie.Need-same-length Inv-loop μ-loop
 same-length c = search needs
 
 returns : tie.Need-returns Inv-loop μ-loop
-returns c = let g = c .before .before .before .before .before .args in put-whole (now (g .text)) (c .loop-test .left) (c .before .loop .inv .1)
+returns c = search put-whole
 
 pub bytes-spec : {M : Type 1} → statement M
 bytes-spec =

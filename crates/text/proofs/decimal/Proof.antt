@@ -26,7 +26,13 @@ same-length : tie.Need-same-length
 same-length c = search needs
 
 returns : tie.Need-returns
-returns c = let g = c .before .before .before .before .before .before .before .before .args in let small : g .n < 2 ^ 64 = omega arith in subst (λ (t : List ℕ). Put (g .p) t (now (g .out)) (c .before .before .bytes .result) (c .before .before .bytes .last .0)) (c .before .before .before .before .before .decimal .ensures .1 .1 ∙ fewest-decimal (g .n) (c .before .before .before .before .before .decimal .result) small (c .before .before .before .before .before .decimal .ensures .1 .0)) (c .before .before .bytes .ensures)
+returns c =
+    let b = c .before .before in
+    let d = b .before .before .before in
+    let g = d .before .before .before .args in
+    let small : g .n < 2 ^ 64 = omega arith in
+    subst (λ (t : List ℕ). Put (g .p) t (now (g .out)) (b .bytes .result) (b .bytes .last .0))
+    (d .decimal .ensures .1 .1 ∙ fewest-decimal (g .n) (d .decimal .result) small (d .decimal .ensures .1 .0)) (b .bytes .ensures)
 
 pub decimal-spec : {M : Type 1} → statement M
 decimal-spec =

@@ -33,7 +33,10 @@ unfolding maskOf
 swap-pairs-requires-6 c κs = (refl, refl, search needs)
 
 returns : tie.Need-returns
-returns c = let s = c .before .before .before .before .before .before in let h : s .args .x < 2 ^ 64 = omega arith in six (s .args .x) (c .before .before .before .before .before .swap-pairs .result) (c .before .before .before .before .swap-pairs2 .result) (c .before .before .before .swap-pairs3 .result) (c .before .before .swap-pairs4 .result) (c .before .swap-pairs5 .result) (c .swap-pairs6 .result) h (c .before .before .before .before .before .swap-pairs .ensures) (c .before .before .before .before .swap-pairs2 .ensures) (c .before .before .before .swap-pairs3 .ensures) (c .before .before .swap-pairs4 .ensures) (c .before .swap-pairs5 .ensures) (c .swap-pairs6 .ensures)
+returns c =
+    let s = c .before .before .before .before .before .before in
+    let h : s .args .x < 2 ^ 64 = omega arith in
+    search six
 
 pub reverse-spec : {M : Type 1} → statement M
 reverse-spec =

@@ -4,8 +4,8 @@ use denote.Ref.{now}
 use Prim.Native.Nat.{ℕ, _-_, _^_, _<_, _≤_}
 use native.Mathlib.Nat.{lt-of-lt-of-le}
 use borrow.Author.Count.{below-more, below-none}
-use lib.ListN.{length}
 use Rattle.gf2.specs.Rows.{row}
+use Rattle.wire.specs.Bytes.{Bytes}
 use Rattle.bundle.specs.Bundle.{matrixAt}
 use Rattle.bundle.proofs.Bodies.{past-some, past-no, last-inside, last-word, last-full, all-clean, not-clean}
 use borrow.Author.Needs.{needs}
@@ -29,8 +29,8 @@ returns c =
     all-clean (g .kind) (g .at) (g .rows) (g .columns) (now (g .b))
     (last-full (g .kind) (g .at) (g .rows) (g .columns) (now (g .b)) (λ j. c .before .before .shared-slice-known .given j .fits) (sym (c .before .odd-bits .ensures) ∙ c .if1 .taken))
 
-words-requires : tie.Need-words-requires Inv-loop μ-loop
-words-requires c κs = search needs
+per-row-requires : tie.Need-per-row-requires Inv-loop μ-loop
+per-row-requires c κs = search needs
 
 loop-holds : tie.Need-loop-holds Inv-loop μ-loop
 loop-holds c = (below-none _, search needs)
@@ -38,62 +38,58 @@ loop-holds c = (below-none _, search needs)
 mul-is-past : tie.Need-mul-is-past Inv-loop μ-loop
 mul-is-past c =
     let l = c .before in
-    let w = l .before .words in
+    let w = l .before .per-row in
     let s = l .before .before .before .before .before in
-    let g = s .args in
-    omega (arith, last-inside (l .loop .i) (g .rows) (g .columns) (w .result) (g .at) (length (now (g .b))) (c .loop-test .taken) (w .ensures) (s .pre .1) (s .pre .3), s .pre .1, w .ensures)
+    omega (arith, last-inside _ _ _ _ _ _ (c .loop-test .taken) (w .ensures) (s .pre .0 .some) (s .pre .1), s .pre .0 .some, w .ensures)
 
 sub-is-past : tie.Need-sub-is-past Inv-loop μ-loop
 sub-is-past c =
     let l = c .before in
-    let w = l .before .words in
+    let w = l .before .per-row in
     let s = l .before .before .before .before .before in
-    omega (arith, s .pre .1, w .ensures)
+    omega (arith, s .pre .0 .some, w .ensures)
 
 add-is-past : tie.Need-add-is-past Inv-loop μ-loop
 add-is-past c =
     let l = c .before in
-    let w = l .before .words in
+    let w = l .before .per-row in
     let s = l .before .before .before .before .before in
-    let g = s .args in
-    omega (arith, last-inside (l .loop .i) (g .rows) (g .columns) (w .result) (g .at) (length (now (g .b))) (c .loop-test .taken) (w .ensures) (s .pre .1) (s .pre .3), s .pre .1, w .ensures)
+    omega (arith, last-inside _ _ _ _ _ _ (c .loop-test .taken) (w .ensures) (s .pre .0 .some) (s .pre .1), s .pre .0 .some, w .ensures)
 
 mul-is-past-2 : tie.Need-mul-is-past-2 Inv-loop μ-loop
 mul-is-past-2 c =
     let l = c .before in
-    let w = l .before .words in
+    let w = l .before .per-row in
     let s = l .before .before .before .before .before in
-    let g = s .args in
-    omega (arith, last-inside (l .loop .i) (g .rows) (g .columns) (w .result) (g .at) (length (now (g .b))) (c .loop-test .taken) (w .ensures) (s .pre .1) (s .pre .3), s .pre .1, w .ensures)
+    omega (arith, last-inside _ _ _ _ _ _ (c .loop-test .taken) (w .ensures) (s .pre .0 .some) (s .pre .1), s .pre .0 .some, w .ensures)
 
 add-is-past-2 : tie.Need-add-is-past-2 Inv-loop μ-loop
 add-is-past-2 c =
     let l = c .before in
-    let w = l .before .words in
+    let w = l .before .per-row in
     let s = l .before .before .before .before .before in
-    let g = s .args in
-    omega (arith, last-inside (l .loop .i) (g .rows) (g .columns) (w .result) (g .at) (length (now (g .b))) (c .loop-test .taken) (w .ensures) (s .pre .1) (s .pre .3), s .pre .1, w .ensures)
+    omega (arith, last-inside _ _ _ _ _ _ (c .loop-test .taken) (w .ensures) (s .pre .0 .some) (s .pre .1), s .pre .0 .some, w .ensures)
 
 is-past-requires : tie.Need-is-past-requires Inv-loop μ-loop
 is-past-requires c κs =
     let l = c .before in
-    let w = l .before .words in
+    let w = l .before .per-row in
     let s = l .before .before .before .before .before in
-    let g = s .args in
-    last-inside (l .loop .i) (g .rows) (g .columns) (w .result) (g .at) (length (now (g .b))) (c .loop-test .taken) (w .ensures) (s .pre .1) (s .pre .3)
+    last-inside _ _ _ _ _ _ (c .loop-test .taken) (w .ensures) (s .pre .0 .some) (s .pre .1)
 
 returns-2 : tie.Need-returns-2 Inv-loop μ-loop
 returns-2 c =
     let l = c .before .before .before in
-    let w = l .before .words in
+    let w = l .before .per-row in
     let o = l .before .before .before .odd-bits in
     let s = l .before .before .before .before .before in
     let g = s .args in
     let i = l .loop .i in
     let h : i < g .rows = c .before .before .loop-test .taken in
+    let fits : Bytes (now (g .b)) = λ j. l .before .before .before .before .shared-slice-known .given j .fits in
     not-clean (g .kind) (g .at) (g .rows) (g .columns) (now (g .b)) i h
-    (λ n. past-some _ _ (c .before .is-past .ensures) (c .if2 .taken) (last-word (g .kind) (g .at) (g .rows) (g .columns) (now (g .b)) (λ j. l .before .before .before .before .shared-slice-known .given j .fits)
-    i (w .result) (o .result) _ h (w .ensures) (o .ensures) (l .before .before .if1 .left) refl .0 n))
+    (λ n. past-some _ _ (c .before .is-past .ensures) (c .if2 .taken)
+    (last-word (g .kind) (g .at) (g .rows) (g .columns) (now (g .b)) fits i (w .result) (o .result) _ h (w .ensures) (o .ensures) (l .before .before .if1 .left) refl .0 n))
 
 add-i : tie.Need-add-i Inv-loop μ-loop
 add-i c = search needs
@@ -104,15 +100,16 @@ loop-less c = search needs
 loop-again : tie.Need-loop-again Inv-loop μ-loop
 loop-again c =
     let l = c .before .before .before in
-    let w = l .before .words in
+    let w = l .before .per-row in
     let o = l .before .before .before .odd-bits in
     let s = l .before .before .before .before .before in
     let g = s .args in
     let i = l .loop .i in
-    let h : i < g .rows = c .before .before .loop-test .taken in (
+    let h : i < g .rows = c .before .before .loop-test .taken in
+    let fits : Bytes (now (g .b)) = λ j. l .before .before .before .before .shared-slice-known .given j .fits in (
       below-more (λ (k : ℕ). row (matrixAt (g .kind) (g .at) (g .rows) (g .columns) (now (g .b))) k < 2 ^ g .columns) i (l .loop .inv .0)
-          (last-word (g .kind) (g .at) (g .rows) (g .columns) (now (g .b)) (λ j. l .before .before .before .before .shared-slice-known .given j .fits)
-          i (w .result) (o .result) _ h (w .ensures) (o .ensures) (l .before .before .if1 .left) refl .1 (past-no _ _ (c .before .is-past .ensures) (c .if2 .left))),
+          (last-word (g .kind) (g .at) (g .rows) (g .columns) (now (g .b)) fits i (w .result) (o .result) _ h (w .ensures) (o .ensures) (l .before .before .if1 .left) refl .1
+          (past-no _ _ (c .before .is-past .ensures) (c .if2 .left))),
       search needs,
     )
 
@@ -131,7 +128,7 @@ is-clean-spec =
     μ-loop
     odd-bits-requires
     returns
-    words-requires
+    per-row-requires
     loop-holds
     mul-is-past
     sub-is-past

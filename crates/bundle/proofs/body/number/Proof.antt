@@ -29,7 +29,7 @@ mul-x c =
     let l = c .before in
     let g = l .before .before .args in
     let h = l .before .before .pre in
-    omega (arith, number-small (now (g .b)) (g .at) (g .k) (l .before .shared-slice-known .given) (h .0) (l .loop .i) (l .loop .x) (search needs) (search needs) (h .1) (l .loop .inv .0))
+    omega (arith, number-small (now (g .b)) (g .at) (g .k) (l .before .shared-slice-known .given) (h .0) (l .loop .i) _ (search needs) (search needs) (h .1) (l .loop .inv .0))
 
 add-wide : tie.Need-add-wide Inv-loop μ-loop
 add-wide c = search needs
@@ -45,7 +45,8 @@ add-x c =
     let l = c .before .before .before in
     let g = l .before .before .args in
     let h = l .before .before .pre in
-    omega (arith, number-small (now (g .b)) (g .at) (g .k) (l .before .shared-slice-known .given) (h .0) (l .loop .i) (l .loop .x) (search needs) (search needs) (h .1) (l .loop .inv .0), c .wide .ensures .1)
+    let n = number-small (now (g .b)) (g .at) (g .k) (l .before .shared-slice-known .given) (h .0) (l .loop .i) (l .loop .x) (search needs) (search needs) (h .1) (l .loop .inv .0) in
+    omega (arith, c .wide .ensures .1)
 
 loop-less : tie.Need-loop-less Inv-loop μ-loop
 loop-less c = search needs

@@ -1,24 +1,27 @@
--- The three tests in order.
-use borrow.Author.Tests.{lt-ltb, le-ltb, eq-eqb, ne-eqb}
-use Rattle.bundle.specs.Bundle.{badShape}
+-- The sizes decide, and 24 stands for what they are refused with.
+use Rattle.bundle.specs.Bundle.{refusedAs, badShape}
+use Rattle.refusals.specs.declared.Refusal.the-variants.{BadShape}
+use mathlib.Core.Path.{sym, ap, _∙_}
+use borrow.Author.Needs.{needs}
 use Rattle.bundle.proofs.ruled.bad_shape.Statement.{statement}
 use Rattle.bundle.proofs.ruled.bad_shape.Tie as tie
 
+sizes-requires : tie.Need-sizes-requires
+sizes-requires c κs = search needs
+
+enum-told : tie.Need-enum-told
+enum-told c = search needs
+
+enum-told-2 : tie.Need-enum-told-2
+enum-told-2 c = search needs
+
 returns : tie.Need-returns
 unfolding badShape
-returns c = simp (lt-ltb _ _ (c .if1 .taken))
+returns c = ap (refusedAs BadShape) (sym (c .enum-told .given .1) ∙ c .before .before .sizes .ensures)
 
 returns-2 : tie.Need-returns-2
 unfolding badShape
-returns-2 c = simp (le-ltb _ _ (c .before .if1 .left), eq-eqb _ _ (c .if2 .taken))
-
-returns-3 : tie.Need-returns-3
-unfolding badShape
-returns-3 c = simp (le-ltb _ _ (c .before .before .if1 .left), ne-eqb _ _ (c .before .if2 .left), lt-ltb _ _ (c .if3 .taken))
-
-returns-4 : tie.Need-returns-4
-unfolding badShape
-returns-4 c = simp (le-ltb _ _ (c .before .before .if1 .left), ne-eqb _ _ (c .before .if2 .left), le-ltb _ _ (c .if3 .left))
+returns-2 c = ap (refusedAs BadShape) (sym (c .enum-told2 .given .1) ∙ c .before .before .sizes .ensures)
 
 pub bad-shape-spec : {M : Type 1} → statement M
-bad-shape-spec = tie.close (tie.spec returns returns-2 returns-3 returns-4)
+bad-shape-spec = tie.close (tie.spec sizes-requires enum-told enum-told-2 returns returns-2)

@@ -1,7 +1,5 @@
 -- Kind and shape first, then the body, each as it stands in the contents.
-use Rattle.bundle.proofs.Steps.{entry-stops, entry-goes, entry-shape}
-use denote.Ref.{now}
-use Rattle.bundle.specs.Bundle.{kindRule}
+use Rattle.bundle.proofs.Steps.{entry-refused, entry-goes, entry-shape}
 use borrow.Author.Needs.{needs}
 use Rattle.bundle.proofs.ruled.check_entry.Statement.{statement}
 use Rattle.bundle.proofs.ruled.check_entry.Tie as tie
@@ -36,33 +34,20 @@ size-requires-4 c κs = search needs
 shape-requires : tie.Need-shape-requires
 shape-requires c κs = search needs
 
-number-requires : tie.Need-number-requires
-number-requires c κs = search needs
+enum-known-o : tie.Need-enum-known-o
+enum-known-o c = search needs
 
-returns : tie.Need-returns
-returns c =
-    let z = c .before .before .before in
-    let g = z .before .before .before .before .before .args in
-    entry-stops (kindRule (g .two)) (g .i) (g .at) (now (g .b)) _ _ _ _ (z .before .before .before .size .ensures) (z .before .before .size2 .ensures) (z .before .size3 .ensures) (z .size4 .ensures)
-    (c .before .before .shape .result) (c .before .number .result) (c .before .before .shape .ensures) (c .before .number .ensures) (c .if1 .taken)
+enum-told : tie.Need-enum-told
+enum-told c = search needs
 
 check-body-requires : tie.Need-check-body-requires
-check-body-requires c κs =
-    let z = c .before .before .before in
-    let s = z .before .before .before .before .before in
-    let g = s .args in
-    let p =
-    entry-shape (kindRule (g .two)) (g .i) (g .at) (now (g .b)) _ _ _ _ (z .before .before .before .size .ensures) (z .before .before .size2 .ensures) (z .before .size3 .ensures) (z .size4 .ensures)
-    (c .before .before .shape .result) (c .before .number .result) (c .before .before .shape .ensures) (c .before .number .ensures) (c .if1 .left) in
-    (p .few, p .some, p .wide, s .pre .1, s .pre .2)
+check-body-requires c κs = (search entry-shape, search needs, search needs)
+
+returns : tie.Need-returns
+returns c = search entry-refused
 
 returns-2 : tie.Need-returns-2
-returns-2 c =
-    let z = c .before .before .before .before in
-    let g = z .before .before .before .before .before .args in
-    entry-goes (kindRule (g .two)) (g .i) (g .at) (now (g .b)) _ _ _ _ (z .before .before .before .size .ensures) (z .before .before .size2 .ensures) (z .before .size3 .ensures) (z .size4 .ensures)
-    (c .before .before .before .shape .result) (c .before .before .number .result) (c .before .before .before .shape .ensures) (c .before .before .number .ensures) (c .before .if1 .left)
-    (c .check-body .result) (c .check-body .ensures)
+returns-2 c = search entry-goes
 
 pub check-entry-spec : {M : Type 1} → statement M
 check-entry-spec =
@@ -78,7 +63,8 @@ check-entry-spec =
     add-size-3
     size-requires-4
     shape-requires
-    number-requires
-    returns
+    enum-known-o
+    enum-told
     check-body-requires
+    returns
     returns-2)

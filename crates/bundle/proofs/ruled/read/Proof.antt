@@ -1,6 +1,4 @@
 -- Refused by the checks, or the count.
-use denote.Ref.{now}
-use Rattle.bundle.specs.Bundle.{kindRule}
 use Rattle.bundle.proofs.Meaning.{two-bytes-long, counted-refused, counted-entries}
 use borrow.Author.Needs.{needs}
 use Rattle.bundle.proofs.ruled.read.Statement.{statement}
@@ -16,22 +14,13 @@ enum-told : tie.Need-enum-told
 enum-told c = search needs
 
 count-requires : tie.Need-count-requires
-count-requires c κs =
-    let t = c .before .before in
-    let g = t .before .before .args in
-    two-bytes-long (kindRule (g .two)) (now (g .bytes)) (t .check .result) (t .check .ensures) (c .enum-told .given .1)
+count-requires c κs = search two-bytes-long
 
 returns : tie.Need-returns
-returns c =
-    let t = c .before .before .before in
-    let g = t .before .before .args in
-    counted-refused (kindRule (g .two)) (now (g .bytes)) (t .check .result) (t .check .ensures) (c .before .o .given .0 .0) (c .before .o .given .1)
+returns c = search counted-refused
 
 returns-2 : tie.Need-returns-2
-returns-2 c =
-    let t = c .before .before .before in
-    let g = t .before .before .args in
-    counted-entries (kindRule (g .two)) (now (g .bytes)) (t .check .result) (t .check .ensures) (c .before .enum-told .given .1) (c .count .result) (c .count .ensures)
+returns-2 c = search counted-entries
 
 pub read-spec : {M : Type 1} → statement M
 read-spec =

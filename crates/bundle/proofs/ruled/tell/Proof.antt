@@ -49,8 +49,8 @@ cast-columns c =
 returns : tie.Need-returns
 returns c =
     let g = c .before .before .before .before .args in
-    ap (λ (x : ℕ). told.Entry x (c .before .size2 .result) (c .size3 .result)) (c .before .before .size .ensures)
-    ∙ ap₂ (λ (x y : ℕ). told.Entry (kindAt (g .i) (now (g .b))) x y) (c .before .size2 .ensures) (c .size3 .ensures)
+    ap (λ (x : ℕ). told.Numbers x (c .before .size2 .result) (c .size3 .result)) (c .before .before .size .ensures)
+    ∙ ap₂ (λ (x y : ℕ). told.Numbers (kindAt (g .i) (now (g .b))) x y) (c .before .size2 .ensures) (c .size3 .ensures)
 
 pub tell-spec : {M : Type 1} → statement M
 tell-spec =

@@ -34,23 +34,23 @@ wide-requires c κs = tt
 sub-q : tie.Need-sub-q Inv-loop μ-loop
 sub-q c =
     let s = c .before .before .before in
-    let marks = s .before .before .pre .3 in
+    let pivots = s .before .before .pre .3 in
     let t = c .before .before .loop-test .taken in
-    omega (arith, c .wide .ensures, marks .low (s .loop .b) t)
+    omega (arith, c .wide .ensures, pivots .low (s .loop .b) t)
 
 cast-y : tie.Need-cast-y Inv-loop μ-loop
 cast-y c =
     let s = c .before .before .before in
-    let marks = s .before .before .pre .3 in
+    let pivots = s .before .before .pre .3 in
     let t = c .before .before .loop-test .taken in
-    omega (arith, c .wide .ensures, marks .low (s .loop .b) t, marks .high (s .loop .b) t)
+    omega (arith, c .wide .ensures, pivots .low (s .loop .b) t, pivots .high (s .loop .b) t)
 
 shr-y : tie.Need-shr-y Inv-loop μ-loop
 shr-y c =
     let s = c .before .before .before in
-    let marks = s .before .before .pre .3 in
+    let pivots = s .before .before .pre .3 in
     let t = c .before .before .loop-test .taken in
-    omega (arith, c .wide .ensures, marks .low (s .loop .b) t, marks .high (s .loop .b) t)
+    omega (arith, c .wide .ensures, pivots .low (s .loop .b) t, pivots .high (s .loop .b) t)
 
 cast-y-2 : tie.Need-cast-y-2 Inv-loop μ-loop
 cast-y-2 c = let p = c .before .before .before .before .before .pre in omega (arith, c .before .before .loop-test .taken, p .1, p .2)

@@ -9,7 +9,7 @@ use Rattle.words.specs.Words.{rowsOf, xors}
 use Rattle.words.proofs.Parts.{length-xors, length-part}
 use Rattle.words.proofs.Value.{fits-fit}
 use Rattle.words.proofs.Rows.{row-ends, getD-rows, rows-added, rest-paste, clear-one, clear-none}
-use Rattle.engine.specs.Stage.{rowAt}
+use Rattle.engine.specs.Stage.{rowWords}
 use native.Mathlib.Omega.{arith}
 use borrow.Author.Needs.{needs}
 use Rattle.engine.proofs.rows.clear_row.Statement.{statement}
@@ -41,10 +41,10 @@ returns c =
     let f = fits-fit m (k .slice-known .given) in
     let e = c .before .before .add-within .ensures in
     let one : bit (g .c) (row L (g .i)) ≡ 1 = ap (bit (g .c)) (getD-rows (g .w) (g .n) m (g .i) (s .pre .3)) ∙ sym (t .before .bit-at .ensures) ∙ t .if1 .taken in
-    let words = length-xors (rowAt (g .i) (g .w) m) (rowAt (g .p) (g .w) m) ∙ length-part (g .i * g .w) (g .w) m (omega (arith, row-ends (g .i) (g .n) (g .w) (s .pre .3), s .pre .0)) in
+    let words = length-xors (rowWords (g .i) (g .w) m) (rowWords (g .p) (g .w) m) ∙ length-part (g .i * g .w) (g .w) m (omega (arith, row-ends (g .i) (g .n) (g .w) (s .pre .3), s .pre .0)) in
     record {
       rows = ap (rowsOf (g .w) (g .n)) e ∙ rows-added (g .w) (g .n) (g .i) (g .p) (g .n) m m (s .pre .3) (s .pre .2) (s .pre .0) f f ∙ clear-one (g .c) (g .p) (g .i) L one;
-      past = ap (drop (g .n * g .w)) e ∙ rest-paste (g .w) (g .n) (g .i) m (xors (rowAt (g .i) (g .w) m) (rowAt (g .p) (g .w) m)) (s .pre .3) (s .pre .0) words;
+      past = ap (drop (g .n * g .w)) e ∙ rest-paste (g .w) (g .n) (g .i) m (xors (rowWords (g .i) (g .w) m) (rowWords (g .p) (g .w) m)) (s .pre .3) (s .pre .0) words;
     }
 
 same-length-2 : tie.Need-same-length-2

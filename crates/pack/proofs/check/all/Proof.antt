@@ -1,69 +1,48 @@
 -- The checks one by one: those before have passed.
-use denote.Ref.{now}
-use mathlib.Core.Path.{sym, ap, _∙_}
-use native.Mathlib.Omega.{arith}
-use lib.ListN.{length}
-use borrow.Author.Tests.{lt-ltb, eq-eqb, ne-eqb}
-use Rattle.refusals.specs.Outcome.{_andThen_}
-use Rattle.refusals.specs.declared.Outcome.{Outcome}
-use Rattle.refusals.proofs.Passed.{number-zero}
-use Rattle.bundle.specs.Bundle.{kindRule}
-use Rattle.bundle.proofs.Steps.{then-stops}
-use Rattle.pack.specs.Writing.{writeChecks, restChecks}
-use Rattle.pack.proofs.Passing.{shapes-any, write-rest}
+use mathlib.Core.Path.{sym, _∙_}
+use Rattle.bundle.proofs.Steps.{tests}
+use Rattle.pack.specs.Writing.{writeOrder}
+use Rattle.pack.proofs.Passing.{shapes-any, write-goes}
 use borrow.Author.Needs.{needs}
 use Rattle.pack.proofs.check.all.Statement.{statement}
 use Rattle.pack.proofs.check.all.Tie as tie
 
 returns : tie.Need-returns
-unfolding writeChecks
-returns c = simp (ne-eqb _ _ (c .if1 .taken))
+unfolding writeOrder
+returns c = search tests
 
 returns-2 : tie.Need-returns-2
-unfolding writeChecks
-returns-2 c =
-    let g = c .before .before .before .before .before .before .args in
-    simp (eq-eqb _ _ (c .before .if1 .left), ne-eqb (length (now (g .columns))) (length (now (g .kinds))) (λ z. omega (arith, c .if2 .taken, z)))
+unfolding writeOrder
+returns-2 c = search tests
 
 returns-3 : tie.Need-returns-3
-unfolding writeChecks
-returns-3 c =
-    let g = c .before .before .before .before .before .before .before .args in
-    simp (eq-eqb _ _ (c .before .before .if1 .left), eq-eqb (length (now (g .columns))) (length (now (g .kinds))) (omega (arith, c .before .if2 .left)), eq-eqb _ _ (c .if3 .taken))
+unfolding writeOrder
+returns-3 c = search tests
 
 returns-4 : tie.Need-returns-4
-unfolding writeChecks
-returns-4 c =
-    let g = c .before .before .before .before .before .before .before .before .args in
-    simp (eq-eqb _ _ (c .before .before .before .if1 .left), eq-eqb (length (now (g .columns))) (length (now (g .kinds))) (omega (arith, c .before .before .if2 .left)), ne-eqb _ _ (c .before .if3 .left), lt-ltb 64 (length (now (g .kinds))) (omega (arith, c .if4 .taken)))
+unfolding writeOrder
+returns-4 c = search tests
 
 shapes-requires : tie.Need-shapes-requires
 shapes-requires c κs = search needs
 
-number-requires : tie.Need-number-requires
-number-requires c κs = search needs
+enum-known-o : tie.Need-enum-known-o
+enum-known-o c = search needs
 
-returns-5 : tie.Need-returns-5
-returns-5 c =
-    let g = c .before .before .before .before .before .before .before .before .before .before .before .args in
-    let f = c .before .before .shapes in
-    let next = restChecks (now (g .kinds)) (now (g .rows)) (now (g .columns)) (now (g .words)) (g .room) in
-    then-stops (f .result) next (λ z. c .if5 .taken (c .before .number .ensures ∙ z))
-    ∙ ap (λ (x : Outcome). x andThen next) (f .ensures) ∙ write-rest (kindRule (g .two)) (now (g .kinds)) (now (g .rows)) (now (g .columns)) (now (g .words)) (g .room) (c .before .before .before .before .before .before .if1 .left) (omega (arith, c .before .before .before .before .before .if2 .left)) (c .before .before .before .before .if3 .left) (omega (arith, c .before .before .before .if4 .left))
+enum-told : tie.Need-enum-told
+enum-told c = search needs
 
 room-for-requires : tie.Need-room-for-requires
-room-for-requires c κs =
-    let g = c .before .before .before .before .before .before .before .before .before .before .before .args in
-    let f = c .before .before .shapes in
-    (c .before .before .before .before .before .before .if1 .left, omega (arith, c .before .before .before .before .before .if2 .left), omega (arith, c .before .before .before .if4 .left), shapes-any (kindRule (g .two)) (now (g .kinds)) (now (g .rows)) (now (g .columns)) (sym (f .ensures) ∙ number-zero (f .result) (sym (c .before .number .ensures) ∙ c .if5 .left)))
+room-for-requires c κs = (search needs, search needs, search needs, shapes-any _ _ _ _ (sym (c .before .before .shapes .ensures) ∙ c .enum-told .given .1))
+
+returns-5 : tie.Need-returns-5
+unfolding writeOrder
+returns-5 c = search (tests, ← (c .before .before .before .shapes .ensures), c .before .o .given .1)
 
 returns-6 : tie.Need-returns-6
 returns-6 c =
-    let g = c .before .before .before .before .before .before .before .before .before .before .before .before .args in
-    let f = c .before .before .before .shapes in
-    let next = restChecks (now (g .kinds)) (now (g .rows)) (now (g .columns)) (now (g .words)) (g .room) in
-    c .room-for .ensures
-    ∙ ap (λ (x : Outcome). x andThen next) (sym (number-zero (f .result) (sym (c .before .before .number .ensures) ∙ c .before .if5 .left)) ∙ f .ensures) ∙ write-rest (kindRule (g .two)) (now (g .kinds)) (now (g .rows)) (now (g .columns)) (now (g .words)) (g .room) (c .before .before .before .before .before .before .before .if1 .left) (omega (arith, c .before .before .before .before .before .before .if2 .left)) (c .before .before .before .before .before .if3 .left) (omega (arith, c .before .before .before .before .if4 .left))
+    let t = c .before .before .before in
+    write-goes _ _ _ _ _ _ _ _ (search needs) (search needs) (search needs) (search needs) (t .shapes .ensures) (c .before .enum-told .given .1) (c .room-for .ensures)
 
 pub all-spec : {M : Type 1} → statement M
 all-spec =
@@ -74,7 +53,8 @@ all-spec =
     returns-3
     returns-4
     shapes-requires
-    number-requires
-    returns-5
+    enum-known-o
+    enum-told
     room-for-requires
+    returns-5
     returns-6)

@@ -5,14 +5,14 @@ use Prim.Native.Nat.{_-_}
 use lib.ListN.{length}
 use Rattle.pack.specs.Writing.{given, allNarrow}
 use Rattle.bundle.proofs.Bodies.{body-same}
-use Rattle.pack.proofs.Turns.{Going, rest, body-fits, going-start, met, going-on, narrow-turn, narrow-stop, narrow-end}
+use Rattle.pack.proofs.Turns.{Going, rest, going-start, met, met-fits, going-on, narrow-turn, narrow-stop, narrow-end}
 use borrow.Author.Needs.{needs}
-use native.Mathlib.Omega.{arith}
 use Rattle.pack.proofs.check.all_narrow.Statement.{statement}
 use Rattle.pack.proofs.check.all_narrow.Tie as tie
 
 abbrev Inv-loop : tie.InvT-loop
-Inv-loop kinds rows columns words a₀ i₀ a i = (allNarrow (given kinds rows columns words) ≡ allNarrow (rest kinds rows columns words i a)) × Going kinds rows columns words i a
+Inv-loop kinds rows columns words a₀ i₀ a i =
+    (allNarrow (given kinds rows columns words) ≡ allNarrow (rest kinds rows columns words i a)) × Going kinds rows columns words i a
 
 abbrev μ-loop : tie.MeasureT-loop
 μ-loop kinds rows columns words a₀ i₀ a i = length kinds - i
@@ -43,31 +43,36 @@ wide-requires-2 c κs = search needs
 
 part-narrow-requires : tie.Need-part-narrow-requires Inv-loop μ-loop
 part-narrow-requires c κs =
-    let l = c .before .before .before .before .before in
+    let q = c in
+    let r = q .before .before in
+    let t = r .before .before in
+    let l = t .before in
     let s = l .before .before .before .before .before in
-    let r = c .before .before .wide in
-    let q = c .wide2 in
-    let m = met (s .pre) (c .before .before .before .before .loop-test .taken) (l .loop .inv .1) refl (r .ensures .0) (q .ensures .0) in
-    (m .shape .few, m .shape .some, m .shape .wide, m .inside)
+    let m = met (s .pre) (t .loop-test .taken) (l .loop .inv .1) (r .wide .ensures .0) (q .wide2 .ensures .0) in
+    (m .shape, m .inside)
 
-words-requires : tie.Need-words-requires Inv-loop μ-loop
-words-requires c κs = search needs
+per-row-requires : tie.Need-per-row-requires Inv-loop μ-loop
+per-row-requires c κs = search needs
 
 mul-a : tie.Need-mul-a Inv-loop μ-loop
 mul-a c =
-    let l = c .before .before .before .before .before .before .before .before in
+    let q = c .before .before .before in
+    let r = q .before .before in
+    let t = r .before .before in
+    let l = t .before in
     let s = l .before .before .before .before .before in
-    let r = c .before .before .before .before .before .wide in
-    let q = c .before .before .before .wide2 in
-    omega (arith, body-fits (now (s .args .words)) (l .loop .a) (r .result) (q .result) (met (s .pre) (c .before .before .before .before .before .before .before .loop-test .taken) (l .loop .inv .1) refl (r .ensures .0) (q .ensures .0) .inside) (c .words .ensures))
+    let f = met-fits (s .pre) (t .loop-test .taken) (l .loop .inv .1) (r .wide .ensures .0) (q .wide2 .ensures .0) (c .per-row .ensures) in
+    search needs
 
 add-a : tie.Need-add-a Inv-loop μ-loop
 add-a c =
-    let l = c .before .before .before .before .before .before .before .before in
+    let q = c .before .before .before in
+    let r = q .before .before in
+    let t = r .before .before in
+    let l = t .before in
     let s = l .before .before .before .before .before in
-    let r = c .before .before .before .before .before .wide in
-    let q = c .before .before .before .wide2 in
-    omega (arith, body-fits (now (s .args .words)) (l .loop .a) (r .result) (q .result) (met (s .pre) (c .before .before .before .before .before .before .before .loop-test .taken) (l .loop .inv .1) refl (r .ensures .0) (q .ensures .0) .inside) (c .words .ensures))
+    let f = met-fits (s .pre) (t .loop-test .taken) (l .loop .inv .1) (r .wide .ensures .0) (q .wide2 .ensures .0) (c .per-row .ensures) in
+    search needs
 
 add-i : tie.Need-add-i Inv-loop μ-loop
 add-i c = search needs
@@ -77,22 +82,26 @@ loop-less c = search needs
 
 loop-again : tie.Need-loop-again Inv-loop μ-loop
 loop-again c =
-    let l = c .before .before .before .before .before .before .before .before in
+    let q = c .before .before .before in
+    let r = q .before .before in
+    let t = r .before .before in
+    let l = t .before in
     let s = l .before .before .before .before .before in
-    let r = c .before .before .before .before .before .wide in
-    let q = c .before .before .before .wide2 in
-    let e = body-same (r .result) (q .result) (c .words .ensures) in (
-      narrow-turn (s .pre) (c .before .before .before .before .before .before .before .loop-test .taken) (l .loop .inv .1) refl (r .ensures .0) (q .ensures .0) e (l .loop .inv .0) (sym (c .before .if1 .taken) ∙ c .before .before .part-narrow .ensures),
-      going-on (s .pre) (c .before .before .before .before .before .before .before .loop-test .taken) (l .loop .inv .1) refl (r .ensures .0) (q .ensures .0) e,
+    let e = body-same (r .wide .result) (q .wide2 .result) (c .per-row .ensures) in (
+      narrow-turn (s .pre) (t .loop-test .taken) (l .loop .inv .1) (r .wide .ensures .0) (q .wide2 .ensures .0) refl e (l .loop .inv .0)
+          (sym (c .before .if1 .taken) ∙ c .before .before .part-narrow .ensures),
+      going-on (s .pre) (t .loop-test .taken) (l .loop .inv .1) (r .wide .ensures .0) (q .wide2 .ensures .0) e,
     )
 
 returns : tie.Need-returns Inv-loop μ-loop
 returns c =
-    let l = c .before .before .before .before .before .before .before in
+    let q = c .before .before in
+    let r = q .before .before in
+    let t = r .before .before in
+    let l = t .before in
     let s = l .before .before .before .before .before in
-    let r = c .before .before .before .before .wide in
-    let q = c .before .before .wide2 in
-    narrow-stop (s .pre) (c .before .before .before .before .before .before .loop-test .taken) (l .loop .inv .1) refl (r .ensures .0) (q .ensures .0) refl (l .loop .inv .0) (sym (c .if1 .left) ∙ c .before .part-narrow .ensures)
+    narrow-stop (s .pre) (t .loop-test .taken) (l .loop .inv .1) (r .wide .ensures .0) (q .wide2 .ensures .0) refl refl (l .loop .inv .0)
+    (sym (c .if1 .left) ∙ c .before .part-narrow .ensures)
 
 returns-2 : tie.Need-returns-2 Inv-loop μ-loop
 returns-2 c =
@@ -114,7 +123,7 @@ all-narrow-spec =
     shared-slice-read-wide-2
     wide-requires-2
     part-narrow-requires
-    words-requires
+    per-row-requires
     mul-a
     add-a
     add-i

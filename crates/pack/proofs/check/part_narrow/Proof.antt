@@ -3,59 +3,52 @@ use denote.Ref.{now}
 use mathlib.Core.Path.{_∙_}
 use Rattle.pack.proofs.Turns.{body-fits, part-holds}
 use borrow.Author.Needs.{needs}
-use native.Mathlib.Omega.{arith}
 use Rattle.pack.proofs.check.part_narrow.Statement.{statement}
 use Rattle.pack.proofs.check.part_narrow.Tie as tie
 
-words-requires : tie.Need-words-requires
-words-requires c κs = search needs
+per-row-requires : tie.Need-per-row-requires
+per-row-requires c κs = search needs
 
 mul-e : tie.Need-mul-e
 mul-e c =
-    let s = c .before .before in
-    let g = s .args in
-    omega (arith, body-fits (now (g .words)) (g .a) (g .rows) (g .columns) (s .pre .3) (c .words .ensures))
+    let g = c .before .before .args in
+    let h = body-fits (now (g .words)) (g .a) (g .rows) (g .columns) (search needs) (c .per-row .ensures) in
+    search needs
 
 add-e : tie.Need-add-e
 add-e c =
-    let s = c .before .before in
-    let g = s .args in
-    omega (arith, body-fits (now (g .words)) (g .a) (g .rows) (g .columns) (s .pre .3) (c .words .ensures))
+    let g = c .before .before .args in
+    let h = body-fits (now (g .words)) (g .a) (g .rows) (g .columns) (search needs) (c .per-row .ensures) in
+    search needs
 
-mul-holds : tie.Need-mul-holds
-mul-holds c = search needs
+mul-hold-rows : tie.Need-mul-hold-rows
+mul-hold-rows c = search needs
 
-sub-holds : tie.Need-sub-holds
-sub-holds c = search needs
+sub-hold-rows : tie.Need-sub-hold-rows
+sub-hold-rows c = search needs
 
-part-holds-start : tie.Need-part-holds-start
-part-holds-start c = search needs
+part-hold-rows-start : tie.Need-part-hold-rows-start
+part-hold-rows-start c = search needs
 
-part-holds-end : tie.Need-part-holds-end
-part-holds-end c =
-    let s = c .before .before in
-    let g = s .args in
-    omega (arith, body-fits (now (g .words)) (g .a) (g .rows) (g .columns) (s .pre .3) (c .words .ensures))
+part-hold-rows-end : tie.Need-part-hold-rows-end
+part-hold-rows-end c = search body-fits
 
-holds-requires : tie.Need-holds-requires
-holds-requires c κs = search needs
+hold-rows-requires : tie.Need-hold-rows-requires
+hold-rows-requires c κs = search needs
 
 returns : tie.Need-returns
-returns c =
-    let s = c .before .before .before .before in
-    let g = s .args in
-    c .holds .ensures ∙ part-holds (now (g .words)) (g .a) (g .rows) (g .columns) (s .pre .3) (c .before .before .words .ensures)
+returns c = c .hold-rows .ensures ∙ search part-holds
 
 pub part-narrow-spec : {M : Type 1} → statement M
 part-narrow-spec =
     tie.close
     (tie.spec
-    words-requires
+    per-row-requires
     mul-e
     add-e
-    mul-holds
-    sub-holds
-    part-holds-start
-    part-holds-end
-    holds-requires
+    mul-hold-rows
+    sub-hold-rows
+    part-hold-rows-start
+    part-hold-rows-end
+    hold-rows-requires
     returns)

@@ -1,8 +1,6 @@
 -- The checks one by one: those before have passed.
-use denote.Ref.{now}
-use mathlib.Core.Path.{sym, _∙_}
-use borrow.Author.Tests.{lt-ltb, le-ltb}
-use Rattle.pack.proofs.Passing.{rest-words, rest-padding, rest-room}
+use Rattle.bundle.proofs.Steps.{tests}
+use Rattle.pack.specs.Writing.{restOrder}
 use borrow.Author.Needs.{needs}
 use Rattle.pack.proofs.check.room_for.Statement.{statement}
 use Rattle.pack.proofs.check.room_for.Tie as tie
@@ -11,15 +9,11 @@ all-words-requires : tie.Need-all-words-requires
 all-words-requires c κs = search needs
 
 returns : tie.Need-returns
-returns c =
-    let g = c .before .before .before .before .before .before .args in
-    let t = c .before .all-words in
-    rest-words (now (g .kinds)) (now (g .rows)) (now (g .columns)) (now (g .words)) (g .room) (t .result) (t .ensures .0) (c .if1 .taken)
+unfolding restOrder
+returns c = search (tests, ← (c .before .all-words .ensures .0))
 
 all-narrow-requires : tie.Need-all-narrow-requires
-all-narrow-requires c κs =
-    let p = c .before .before .before .before .before .before .pre in
-    record { rows-too = p .0; columns-too = p .1; few = p .2; shapes = p .3; words-fit = sym (c .if1 .left ∙ c .before .all-words .ensures .0) }
+all-narrow-requires c κs = search needs
 
 mul-size : tie.Need-mul-size
 mul-size c = search needs
@@ -34,28 +28,28 @@ add-size-2 : tie.Need-add-size-2
 add-size-2 c = search needs
 
 returns-2 : tie.Need-returns-2
+unfolding restOrder
 returns-2 c =
-    let g = c .before .before .before .before .before .before .before .before .before .args in
-    let t = c .before .before .before .before .all-words in
-    simp (lt-ltb _ _ (c .if3 .taken)) at (rest-room (now (g .kinds)) (now (g .rows)) (now (g .columns)) (now (g .words)) (g .room) (t .result) (t .ensures .0) (c .before .before .before .if1 .left) (sym (c .before .if2 .taken) ∙ c .before .before .all-narrow .ensures))
+    let n = c .before .before in
+    search (tests, ← (n .before .before .all-words .ensures .0), ← (n .all-narrow .ensures), c .before .if2 .taken)
 
 returns-3 : tie.Need-returns-3
+unfolding restOrder
 returns-3 c =
-    let g = c .before .before .before .before .before .before .before .before .before .before .args in
-    let t = c .before .before .before .before .before .all-words in
-    simp (le-ltb _ _ (c .before .if3 .left), lt-ltb _ _ (c .if4 .taken)) at (rest-room (now (g .kinds)) (now (g .rows)) (now (g .columns)) (now (g .words)) (g .room) (t .result) (t .ensures .0) (c .before .before .before .before .if1 .left) (sym (c .before .before .if2 .taken) ∙ c .before .before .before .all-narrow .ensures))
+    let n = c .before .before .before in
+    search (tests, ← (n .before .before .all-words .ensures .0), ← (n .all-narrow .ensures), c .before .before .if2 .taken)
 
 returns-4 : tie.Need-returns-4
+unfolding restOrder
 returns-4 c =
-    let g = c .before .before .before .before .before .before .before .before .before .before .args in
-    let t = c .before .before .before .before .before .all-words in
-    simp (le-ltb _ _ (c .before .if3 .left), le-ltb _ _ (c .if4 .left)) at (rest-room (now (g .kinds)) (now (g .rows)) (now (g .columns)) (now (g .words)) (g .room) (t .result) (t .ensures .0) (c .before .before .before .before .if1 .left) (sym (c .before .before .if2 .taken) ∙ c .before .before .before .all-narrow .ensures))
+    let n = c .before .before .before in
+    search (tests, ← (n .before .before .all-words .ensures .0), ← (n .all-narrow .ensures), c .before .before .if2 .taken)
 
 returns-5 : tie.Need-returns-5
+unfolding restOrder
 returns-5 c =
-    let g = c .before .before .before .before .before .before .before .before .args in
-    let t = c .before .before .before .all-words in
-    rest-padding (now (g .kinds)) (now (g .rows)) (now (g .columns)) (now (g .words)) (g .room) (t .result) (t .ensures .0) (c .before .before .if1 .left) (sym (c .if2 .left) ∙ c .before .all-narrow .ensures)
+    let n = c .before in
+    search (tests, ← (n .before .before .all-words .ensures .0), ← (n .all-narrow .ensures), c .if2 .left)
 
 pub room-for-spec : {M : Type 1} → statement M
 room-for-spec =

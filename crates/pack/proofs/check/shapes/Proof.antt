@@ -1,17 +1,17 @@
 -- The checks of all entries are those of the entries that are left, as long as none refuses.
-use denote.Ref.{now}
-use mathlib.Core.Path.{_≡_, refl, sym, _∙_}
+use mathlib.Core.Path.{_≡_, refl}
 use Prim.Native.Nat.{_-_, _≤_}
 use lib.ListN.{length, drop}
 use Rattle.bundle.specs.Bundle.{kindRule}
 use Rattle.pack.specs.Writing.{shapesChecks}
-use Rattle.pack.proofs.Turns.{shapes-turn, shapes-stop, shapes-end}
+use Rattle.pack.proofs.Turns.{shapes-turn, shapes-refused, shapes-end}
 use borrow.Author.Needs.{needs}
 use Rattle.pack.proofs.check.shapes.Statement.{statement}
 use Rattle.pack.proofs.check.shapes.Tie as tie
 
 abbrev Inv-loop : tie.InvT-loop
-Inv-loop two kinds rows columns i₀ i = (shapesChecks (kindRule two) kinds rows columns ≡ shapesChecks (kindRule two) (drop i kinds) (drop i rows) (drop i columns)) × (i ≤ length kinds)
+Inv-loop two kinds rows columns i₀ i =
+    (shapesChecks (kindRule two) kinds rows columns ≡ shapesChecks (kindRule two) (drop i kinds) (drop i rows) (drop i columns)) × (i ≤ length kinds)
 
 abbrev μ-loop : tie.MeasureT-loop
 μ-loop two kinds rows columns i₀ i = length kinds - i
@@ -49,15 +49,14 @@ wide-requires-3 c κs = search needs
 shape-requires : tie.Need-shape-requires Inv-loop μ-loop
 shape-requires c κs = search needs
 
-number-requires : tie.Need-number-requires Inv-loop μ-loop
-number-requires c κs = search needs
+enum-known-o : tie.Need-enum-known-o Inv-loop μ-loop
+enum-known-o c = search needs
 
 returns : tie.Need-returns Inv-loop μ-loop
-returns c =
-    let l = c .before .before .before .before .before .before .before .before .before .before in
-    let s = l .before .before .before .before in
-    let g = s .args in
-    shapes-stop (kindRule (g .two)) (now (g .kinds)) (now (g .rows)) (now (g .columns)) (l .loop .i) (s .pre .0) (s .pre .1) (search needs) (c .before .before .before .before .before .before .before .wide .ensures .0) (c .before .before .before .before .before .wide2 .ensures .0) (c .before .before .before .wide3 .ensures .0) (l .loop .inv .0) (c .before .before .shape .ensures) (c .before .number .ensures) (c .if1 .taken)
+returns c = search shapes-refused
+
+enum-told : tie.Need-enum-told Inv-loop μ-loop
+enum-told c = search needs
 
 add-i : tie.Need-add-i Inv-loop μ-loop
 add-i c = search needs
@@ -67,16 +66,18 @@ loop-less c = search needs
 
 loop-again : tie.Need-loop-again Inv-loop μ-loop
 loop-again c =
-    let l = c .before .before .before .before .before .before .before .before .before .before in
-    let s = l .before .before .before .before in
-    let g = s .args in
-    (shapes-turn (kindRule (g .two)) (now (g .kinds)) (now (g .rows)) (now (g .columns)) (l .loop .i) (s .pre .0) (s .pre .1) (search needs) (c .before .before .before .before .before .before .before .wide .ensures .0) (c .before .before .before .before .before .wide2 .ensures .0) (c .before .before .before .wide3 .ensures .0) (l .loop .inv .0) (c .before .before .shape .ensures) (c .before .number .ensures) (c .if1 .left), search needs)
+    let t = c .before .before in
+    let w = t .before in
+    let l = w .before .before .before .before .before .before .before in
+    let s = l .before .before .before .before in (
+      shapes-turn _ _ _ _ (l .loop .i) (s .pre .0) (s .pre .1) (search needs)
+          (w .before .before .before .before .wide .ensures .0) (w .before .before .wide2 .ensures .0) (w .wide3 .ensures .0)
+          (l .loop .inv .0) (t .shape .ensures) (c .enum-told .given .1),
+      search needs,
+    )
 
 returns-2 : tie.Need-returns-2 Inv-loop μ-loop
-returns-2 c =
-    let l = c .before in
-    let g = l .before .before .before .before .args in
-    sym (l .loop .inv .0 ∙ shapes-end (kindRule (g .two)) (now (g .kinds)) (now (g .rows)) (now (g .columns)) (l .loop .i) (c .loop-test .left))
+returns-2 c = search shapes-end
 
 pub shapes-spec : {M : Type 1} → statement M
 shapes-spec =
@@ -95,8 +96,9 @@ shapes-spec =
     shared-slice-read-wide-3
     wide-requires-3
     shape-requires
-    number-requires
+    enum-known-o
     returns
+    enum-told
     add-i
     loop-less
     loop-again

@@ -1,7 +1,7 @@
 -- A turn puts the body of the next entry: what is then to be put stays the same.
 use denote.Ref.{now}
 use mathlib.Core.Path.{_≡_, refl}
-use Prim.Native.Nat.{_+_, _-_, _*_, _≤_}
+use Prim.Native.Nat.{_+_, _-_, _*_}
 use lib.ListN.{length}
 use Rattle.words.proofs.Value.{fits-fit}
 use Rattle.bundle.specs.Bundle.{headBytes}
@@ -9,14 +9,17 @@ use Rattle.pack.specs.Encode.{bodiesOf}
 use Rattle.pack.specs.Writing.{given}
 use Rattle.pack.specs.Steps.{splice}
 use Rattle.bundle.proofs.Bodies.{body-same}
-use Rattle.pack.proofs.Turns.{Going, rest, body-fits, going-start, met, going-on, bodies-start, bodies-turn, bodies-end}
+use Rattle.pack.proofs.Turns.{Going, rest, going-start, met-fits, going-on, bodies-start, bodies-turn, bodies-end}
 use borrow.Author.Needs.{needs}
 use native.Mathlib.Omega.{arith}
 use Rattle.pack.proofs.put.bodies.Statement.{statement}
 use Rattle.pack.proofs.put.bodies.Tie as tie
 
 abbrev Inv-loop : tie.InvT-loop
-Inv-loop out₀ kinds rows columns words start a₀ i₀ out a i = (splice (headBytes (length kinds)) (bodiesOf (given kinds rows columns words)) out₀ ≡ splice (headBytes (length kinds) + 8 * a) (bodiesOf (rest kinds rows columns words i a)) out) × Going kinds rows columns words i a × (length out ≡ length out₀)
+Inv-loop out₀ kinds rows columns words start a₀ i₀ out a i =
+    (splice (headBytes (length kinds)) (bodiesOf (given kinds rows columns words)) out₀
+    ≡ splice (headBytes (length kinds) + 8 * a) (bodiesOf (rest kinds rows columns words i a)) out)
+    × Going kinds rows columns words i a × (length out ≡ length out₀)
 
 abbrev μ-loop : tie.MeasureT-loop
 μ-loop out₀ kinds rows columns words start a₀ i₀ out a i = length kinds - i
@@ -64,17 +67,18 @@ shared-slice-read-wide-3 c = search needs
 wide-requires-3 : tie.Need-wide-requires-3 Inv-loop μ-loop
 wide-requires-3 c κs = search needs
 
-words-requires : tie.Need-words-requires Inv-loop μ-loop
-words-requires c κs = search needs
+per-row-requires : tie.Need-per-row-requires Inv-loop μ-loop
+per-row-requires c κs = search needs
 
 mul-n : tie.Need-mul-n Inv-loop μ-loop
 mul-n c =
-    let l = c .before .before .before .before .before .before .before .before in
+    let q = c .before in
+    let r = q .before .before in
+    let t = r .before .before .before .before in
+    let l = t .before in
     let s = l .before .before .before .before .before .before in
-    let r = c .before .before .before .wide2 in
-    let q = c .before .wide3 in
-    let w = c .words in
-    omega (arith, body-fits (now (s .args .words)) (l .loop .a) (r .result) (q .result) (met (s .pre .0) (c .before .before .before .before .before .before .before .loop-test .taken) (l .loop .inv .1) (c .before .before .before .before .before .wide .ensures .0) (r .ensures .0) (q .ensures .0) .inside) (w .ensures))
+    let f = met-fits (s .pre .0) (t .loop-test .taken) (l .loop .inv .1) (r .wide2 .ensures .0) (q .wide3 .ensures .0) (c .per-row .ensures) in
+    search needs
 
 mul-body : tie.Need-mul-body Inv-loop μ-loop
 mul-body c = search needs
@@ -84,22 +88,23 @@ add-body c = search needs
 
 body-requires : tie.Need-body-requires Inv-loop μ-loop
 body-requires c κs =
-    let l = c .before .before .before .before .before .before .before .before .before in
+    let q = c .before .before in
+    let r = q .before .before in
+    let t = r .before .before .before .before in
+    let l = t .before in
     let s = l .before .before .before .before .before .before in
-    let r = c .before .before .before .before .wide2 in
-    let q = c .before .before .wide3 in
-    let w = c .before .words in
-    let f : l .loop .a + r .result * w .result ≤ length (now (s .args .words)) = body-fits (now (s .args .words)) (l .loop .a) (r .result) (q .result) (met (s .pre .0) (c .before .before .before .before .before .before .before .before .loop-test .taken) (l .loop .inv .1) (c .before .before .before .before .before .before .wide .ensures .0) (r .ensures .0) (q .ensures .0) .inside) (w .ensures) in
+    let f = met-fits (s .pre .0) (t .loop-test .taken) (l .loop .inv .1) (r .wide2 .ensures .0) (q .wide3 .ensures .0) (c .before .per-row .ensures) in
     (omega (arith, l .loop .inv .2, s .pre .1), f)
 
 add-a : tie.Need-add-a Inv-loop μ-loop
 add-a c =
-    let l = c .before .before .before .before .before .before .before .before .before .before .before .before in
+    let q = c .before .before .before .before .before in
+    let r = q .before .before in
+    let t = r .before .before .before .before in
+    let l = t .before in
     let s = l .before .before .before .before .before .before in
-    let r = c .before .before .before .before .before .before .before .wide2 in
-    let q = c .before .before .before .before .before .wide3 in
-    let w = c .before .before .before .before .words in
-    omega (arith, body-fits (now (s .args .words)) (l .loop .a) (r .result) (q .result) (met (s .pre .0) (c .before .before .before .before .before .before .before .before .before .before .before .loop-test .taken) (l .loop .inv .1) (c .before .before .before .before .before .before .before .before .before .wide .ensures .0) (r .ensures .0) (q .ensures .0) .inside) (w .ensures))
+    let f = met-fits (s .pre .0) (t .loop-test .taken) (l .loop .inv .1) (r .wide2 .ensures .0) (q .wide3 .ensures .0) (c .before .before .before .before .per-row .ensures) in
+    search needs
 
 add-i : tie.Need-add-i Inv-loop μ-loop
 add-i c = search needs
@@ -109,14 +114,17 @@ loop-less c = search needs
 
 loop-again : tie.Need-loop-again Inv-loop μ-loop
 loop-again c =
-    let l = c .before .before .before .before .before .before .before .before .before .before .before .before in
+    let q = c .before .before .before .before .before in
+    let r = q .before .before in
+    let k = r .before .before in
+    let t = k .before .before in
+    let l = t .before in
     let s = l .before .before .before .before .before .before in
-    let r = c .before .before .before .before .before .before .before .wide2 in
-    let q = c .before .before .before .before .before .wide3 in
-    let w = c .before .before .before .before .words in
-    let e = body-same (r .result) (q .result) (w .ensures) in (
-      bodies-turn (s .pre .0) (c .before .before .before .before .before .before .before .before .before .before .before .loop-test .taken) (l .loop .inv .1) (c .before .before .before .before .before .before .before .before .before .wide .ensures .0) (r .ensures .0) (q .ensures .0) e (l .loop .out) (headBytes (length (now (s .args .kinds)))) (fits-fit (now (s .args .words)) (l .before .shared-slice-known4 .given)) (l .loop .inv .0) (search needs) (c .before .before .body .ensures),
-      going-on (s .pre .0) (c .before .before .before .before .before .before .before .before .before .before .before .loop-test .taken) (l .loop .inv .1) (c .before .before .before .before .before .before .before .before .before .wide .ensures .0) (r .ensures .0) (q .ensures .0) e,
+    let e = body-same (r .wide2 .result) (q .wide3 .result) (c .before .before .before .before .per-row .ensures) in
+    let fit = fits-fit (now (s .args .words)) (l .before .shared-slice-known4 .given) in (
+      bodies-turn (s .pre .0) (t .loop-test .taken) (l .loop .inv .1) (r .wide2 .ensures .0) (q .wide3 .ensures .0) (k .wide .ensures .0) e
+          (l .loop .out) (headBytes (length (now (s .args .kinds)))) fit (l .loop .inv .0) (search needs) (c .before .before .body .ensures),
+      going-on (s .pre .0) (t .loop-test .taken) (l .loop .inv .1) (r .wide2 .ensures .0) (q .wide3 .ensures .0) e,
       search needs,
     )
 
@@ -124,10 +132,7 @@ same-length : tie.Need-same-length Inv-loop μ-loop
 same-length c = search needs
 
 returns : tie.Need-returns Inv-loop μ-loop
-returns c =
-    let l = c .before in
-    let g = l .before .before .before .before .before .before .args in
-    bodies-end (now (g .kinds)) (now (g .rows)) (now (g .columns)) (now (g .words)) (l .loop .i) (l .loop .a) (c .loop-test .left) (l .loop .out) (headBytes (length (now (g .kinds))) + 8 * l .loop .a) (l .loop .inv .0)
+returns c = search bodies-end
 
 pub bodies-spec : {M : Type 1} → statement M
 bodies-spec =
@@ -147,7 +152,7 @@ bodies-spec =
     mul-wide-3
     shared-slice-read-wide-3
     wide-requires-3
-    words-requires
+    per-row-requires
     mul-n
     mul-body
     add-body

@@ -12,7 +12,9 @@ use Rattle.pack.proofs.put.body.Statement.{statement}
 use Rattle.pack.proofs.put.body.Tie as tie
 
 abbrev Inv-loop : tie.InvT-loop
-Inv-loop out₀ at kind words a n j₀ out j = (splice at (bytesOfWords kind (take n (drop a words))) out₀ ≡ splice (at + 8 * j) (bytesOfWords kind (take (n - j) (drop (a + j) words))) out) × (j ≤ n) × (length out ≡ length out₀)
+Inv-loop out₀ at kind words a n j₀ out j =
+    (splice at (bytesOfWords kind (take n (drop a words))) out₀ ≡ splice (at + 8 * j) (bytesOfWords kind (take (n - j) (drop (a + j) words))) out)
+    × (j ≤ n) × (length out ≡ length out₀)
 
 abbrev μ-loop : tie.MeasureT-loop
 μ-loop out₀ at kind words a n j₀ out j = n - j
@@ -54,7 +56,8 @@ loop-again c =
     let l = c .before .before .before .before .before .before .before in
     let s = l .before .before .before in
     let g = s .args in (
-      words-turn (l .loop .out) (now (g .words)) (g .at) (g .kind) (g .a) (g .n) (l .loop .j) (l .loop .inv .0) (search needs) (omega (arith, l .loop .inv .2, s .pre .0)) (s .pre .1) (c .before .before .before .ordered .ensures) (c .before .before .number .ensures),
+      words-turn (l .loop .out) (now (g .words)) (g .at) (g .kind) (g .a) (g .n) (l .loop .j) (l .loop .inv .0) (search needs)
+          (omega (arith, l .loop .inv .2, s .pre .0)) (s .pre .1) (c .before .before .before .ordered .ensures) (c .before .before .number .ensures),
       search needs,
       search needs,
     )

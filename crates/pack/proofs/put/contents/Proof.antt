@@ -8,14 +8,16 @@ use Rattle.pack.specs.Encode.{contentsOf}
 use Rattle.pack.specs.Writing.{given}
 use Rattle.pack.specs.Steps.{splice}
 use Rattle.bundle.proofs.Bodies.{body-same}
-use Rattle.pack.proofs.Turns.{Going, rest, body-fits, going-start, met, going-on, contents-start, contents-turn, contents-end}
+use Rattle.pack.proofs.Turns.{Going, rest, going-start, met-fits, going-on, contents-start, contents-turn, contents-end}
 use borrow.Author.Needs.{needs}
-use native.Mathlib.Omega.{arith}
 use Rattle.pack.proofs.put.contents.Statement.{statement}
 use Rattle.pack.proofs.put.contents.Tie as tie
 
 abbrev Inv-loop : tie.InvT-loop
-Inv-loop out₀ kinds rows columns words start a₀ i₀ out a i = (splice 2 (contentsOf (headBytes (length kinds)) (given kinds rows columns words)) out₀ ≡ splice (2 + 10 * i) (contentsOf (headBytes (length kinds) + 8 * a) (rest kinds rows columns words i a)) out) × Going kinds rows columns words i a × (length out ≡ length out₀)
+Inv-loop out₀ kinds rows columns words start a₀ i₀ out a i =
+    (splice 2 (contentsOf (headBytes (length kinds)) (given kinds rows columns words)) out₀
+    ≡ splice (2 + 10 * i) (contentsOf (headBytes (length kinds) + 8 * a) (rest kinds rows columns words i a)) out)
+    × Going kinds rows columns words i a × (length out ≡ length out₀)
 
 abbrev μ-loop : tie.MeasureT-loop
 μ-loop out₀ kinds rows columns words start a₀ i₀ out a i = length kinds - i
@@ -78,26 +80,28 @@ add-head-2 c = search needs
 head-requires : tie.Need-head-requires Inv-loop μ-loop
 head-requires c κs = search needs
 
-words-requires : tie.Need-words-requires Inv-loop μ-loop
-words-requires c κs = search needs
+per-row-requires : tie.Need-per-row-requires Inv-loop μ-loop
+per-row-requires c κs = search needs
 
 mul-a : tie.Need-mul-a Inv-loop μ-loop
 mul-a c =
-    let l = c .before .before .before .before .before .before .before .before .before .before .before .before in
+    let q = c .before .before .before .before .before in
+    let r = q .before .before in
+    let t = r .before .before .before .before in
+    let l = t .before in
     let s = l .before .before .before .before .before .before in
-    let r = c .before .before .before .before .before .before .before .wide2 in
-    let q = c .before .before .before .before .before .wide3 in
-    let w = c .words in
-    omega (arith, body-fits (now (s .args .words)) (l .loop .a) (r .result) (q .result) (met (s .pre .0) (c .before .before .before .before .before .before .before .before .before .before .before .loop-test .taken) (l .loop .inv .1) (c .before .before .before .before .before .before .before .before .before .wide .ensures .0) (r .ensures .0) (q .ensures .0) .inside) (w .ensures))
+    let f = met-fits (s .pre .0) (t .loop-test .taken) (l .loop .inv .1) (r .wide2 .ensures .0) (q .wide3 .ensures .0) (c .per-row .ensures) in
+    search needs
 
 add-a : tie.Need-add-a Inv-loop μ-loop
 add-a c =
-    let l = c .before .before .before .before .before .before .before .before .before .before .before .before in
+    let q = c .before .before .before .before .before in
+    let r = q .before .before in
+    let t = r .before .before .before .before in
+    let l = t .before in
     let s = l .before .before .before .before .before .before in
-    let r = c .before .before .before .before .before .before .before .wide2 in
-    let q = c .before .before .before .before .before .wide3 in
-    let w = c .words in
-    omega (arith, body-fits (now (s .args .words)) (l .loop .a) (r .result) (q .result) (met (s .pre .0) (c .before .before .before .before .before .before .before .before .before .before .before .loop-test .taken) (l .loop .inv .1) (c .before .before .before .before .before .before .before .before .before .wide .ensures .0) (r .ensures .0) (q .ensures .0) .inside) (w .ensures))
+    let f = met-fits (s .pre .0) (t .loop-test .taken) (l .loop .inv .1) (r .wide2 .ensures .0) (q .wide3 .ensures .0) (c .per-row .ensures) in
+    search needs
 
 add-i : tie.Need-add-i Inv-loop μ-loop
 add-i c = search needs
@@ -107,14 +111,16 @@ loop-less c = search needs
 
 loop-again : tie.Need-loop-again Inv-loop μ-loop
 loop-again c =
-    let l = c .before .before .before .before .before .before .before .before .before .before .before .before in
+    let q = c .before .before .before .before .before in
+    let r = q .before .before in
+    let k = r .before .before in
+    let t = k .before .before in
+    let l = t .before in
     let s = l .before .before .before .before .before .before in
-    let r = c .before .before .before .before .before .before .before .wide2 in
-    let q = c .before .before .before .before .before .wide3 in
-    let w = c .words in
-    let e = body-same (r .result) (q .result) (w .ensures) in (
-      contents-turn (s .pre .0) (c .before .before .before .before .before .before .before .before .before .before .before .loop-test .taken) (l .loop .inv .1) (c .before .before .before .before .before .before .before .before .before .wide .ensures .0) (r .ensures .0) (q .ensures .0) e (l .loop .out) (headBytes (length (now (s .args .kinds)))) (l .loop .inv .0) (search needs) (c .before .before .before .head .ensures),
-      going-on (s .pre .0) (c .before .before .before .before .before .before .before .before .before .before .before .loop-test .taken) (l .loop .inv .1) (c .before .before .before .before .before .before .before .before .before .wide .ensures .0) (r .ensures .0) (q .ensures .0) e,
+    let e = body-same (r .wide2 .result) (q .wide3 .result) (c .per-row .ensures) in (
+      contents-turn (s .pre .0) (t .loop-test .taken) (l .loop .inv .1) (r .wide2 .ensures .0) (q .wide3 .ensures .0) (k .wide .ensures .0) e
+          (l .loop .out) (headBytes (length (now (s .args .kinds)))) (l .loop .inv .0) (search needs) (c .before .before .before .head .ensures),
+      going-on (s .pre .0) (t .loop-test .taken) (l .loop .inv .1) (r .wide2 .ensures .0) (q .wide3 .ensures .0) e,
       search needs,
     )
 
@@ -122,10 +128,7 @@ same-length : tie.Need-same-length Inv-loop μ-loop
 same-length c = search needs
 
 returns : tie.Need-returns Inv-loop μ-loop
-returns c =
-    let l = c .before in
-    let g = l .before .before .before .before .before .before .args in
-    contents-end (now (g .kinds)) (now (g .rows)) (now (g .columns)) (now (g .words)) (l .loop .i) (l .loop .a) (c .loop-test .left) (l .loop .out) (headBytes (length (now (g .kinds))) + 8 * l .loop .a) (2 + 10 * l .loop .i) (l .loop .inv .0)
+returns c = search contents-end
 
 pub contents-spec : {M : Type 1} → statement M
 contents-spec =
@@ -150,7 +153,7 @@ contents-spec =
     mul-head-2
     add-head-2
     head-requires
-    words-requires
+    per-row-requires
     mul-a
     add-a
     add-i

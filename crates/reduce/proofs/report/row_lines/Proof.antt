@@ -1,10 +1,10 @@
 -- One row after the other.
 use denote.Ref.{now}
 use mathlib.Core.Path.{_≡_, refl, subst}
-use Prim.Native.Nat.{ℕ, _-_, _≤_, min}
+use Prim.Native.Nat.{ℕ, _-_, _≤_}
 use lib.ListN.{length, take}
 use lib.Seq.{take-all}
-use mathlib.Core.List.{List, []}
+use mathlib.Core.List.{List}
 use Rattle.words.proofs.Rows.{length-rows}
 use Rattle.words.specs.Words.{wordsOf, rowsOf}
 use Rattle.text.specs.Put.{Put}
@@ -22,23 +22,22 @@ Inv-loop out₀ p words n columns w q₀ i₀ t11 out q i = (i ≤ n) × Put p (
 abbrev μ-loop : tie.MeasureT-loop
 μ-loop out₀ p words n columns w q₀ i₀ t11 out q i = n - i
 
-words-requires : tie.Need-words-requires Inv-loop μ-loop
-words-requires c κs = search needs
+per-row-requires : tie.Need-per-row-requires Inv-loop μ-loop
+per-row-requires c κs = search needs
 
 loop-holds : tie.Need-loop-holds Inv-loop μ-loop
 unfolding rowLines
 loop-holds c =
     let g = c .before .before .before .args in
-    let z : min (g .p) (length (now (g .out))) ≡ g .p = omega (arith, c .before .before .before .pre .2) in
-    (search needs, subst (λ (r : ℕ). Put (g .p) [] (now (g .out)) r (now (g .out))) z (put-none (g .p) (now (g .out))), refl)
+    (search needs, put-none (g .p) (g .p) (now (g .out)) (omega (arith, c .before .before .before .pre .2)), refl)
 
 mul-a : tie.Need-mul-a Inv-loop μ-loop
 mul-a c =
     let s = c .before .before .before .before .before in
     let g = s .args in
     let i = c .before .loop .i in
-    let ew = c .before .before .words .ensures in
-    let inside = row-inside i (g .n) (c .before .before .words .result) (wordsOf (g .columns)) (length (now (g .words))) (c .loop-test .taken) ew (s .pre .1) in
+    let ew = c .before .before .per-row .ensures in
+    let inside = row-inside i (g .n) (c .before .before .per-row .result) (wordsOf (g .columns)) (length (now (g .words))) (c .loop-test .taken) ew (s .pre .1) in
     omega (arith, inside, s .good .1 .1 .0 .0)
 
 add-e : tie.Need-add-e Inv-loop μ-loop
@@ -46,8 +45,8 @@ add-e c =
     let s = c .before .before .before .before .before in
     let g = s .args in
     let i = c .before .loop .i in
-    let ew = c .before .before .words .ensures in
-    let inside = row-inside i (g .n) (c .before .before .words .result) (wordsOf (g .columns)) (length (now (g .words))) (c .loop-test .taken) ew (s .pre .1) in
+    let ew = c .before .before .per-row .ensures in
+    let inside = row-inside i (g .n) (c .before .before .per-row .result) (wordsOf (g .columns)) (length (now (g .words))) (c .loop-test .taken) ew (s .pre .1) in
     omega (arith, inside, s .good .1 .1 .0 .0)
 
 mul-bits : tie.Need-mul-bits Inv-loop μ-loop
@@ -55,8 +54,8 @@ mul-bits c =
     let s = c .before .before .before .before .before .before in
     let g = s .args in
     let i = c .before .before .loop .i in
-    let ew = c .before .before .before .words .ensures in
-    let inside = row-inside i (g .n) (c .before .before .before .words .result) (wordsOf (g .columns)) (length (now (g .words))) (c .before .loop-test .taken) ew (s .pre .1) in
+    let ew = c .before .before .before .per-row .ensures in
+    let inside = row-inside i (g .n) (c .before .before .before .per-row .result) (wordsOf (g .columns)) (length (now (g .words))) (c .before .loop-test .taken) ew (s .pre .1) in
     omega (arith, inside, s .good .1 .1 .0 .0)
 
 sub-bits : tie.Need-sub-bits Inv-loop μ-loop
@@ -70,8 +69,8 @@ part-bits-end c =
     let s = c .before .before .before .before .before .before in
     let g = s .args in
     let i = c .before .before .loop .i in
-    let ew = c .before .before .before .words .ensures in
-    let inside = row-inside i (g .n) (c .before .before .before .words .result) (wordsOf (g .columns)) (length (now (g .words))) (c .before .loop-test .taken) ew (s .pre .1) in
+    let ew = c .before .before .before .per-row .ensures in
+    let inside = row-inside i (g .n) (c .before .before .before .per-row .result) (wordsOf (g .columns)) (length (now (g .words))) (c .before .loop-test .taken) ew (s .pre .1) in
     omega (arith, inside)
 
 bits-requires : tie.Need-bits-requires Inv-loop μ-loop
@@ -94,7 +93,7 @@ loop-again c =
     let s = c .before .before .before .before .before .before .before .before .before .before .before .before .before .before .before in
     let g = s .args in
     let l = c .before .before .before .before .before .before .before .before .before .before .before in
-    (search needs, subst (λ (t : List ℕ). Put (g .p) t (now (g .out)) (c .before .before .bytes .result) (c .before .before .bytes .last .0)) (words-more (g .columns) (l .loop .i) (g .n) (c .before .before .before .before .before .before .before .before .before .before .before .before .words .result) _ _ (now (g .words)) (c .before .before .before .before .before .before .before .before .before .before .loop-test .taken) (c .before .before .before .before .before .before .before .before .before .before .before .before .words .ensures) refl refl (s .pre .0)) (put-then (l .loop .inv .1) (put-then (c .before .before .before .before .before .before .before .bits .ensures) (c .before .before .bytes .ensures))), search needs)
+    (search needs, subst (λ (t : List ℕ). Put (g .p) t (now (g .out)) (c .before .before .bytes .result) (c .before .before .bytes .last .0)) (words-more (g .columns) (l .loop .i) (g .n) (c .before .before .before .before .before .before .before .before .before .before .before .before .per-row .result) _ _ (now (g .words)) (c .before .before .before .before .before .before .before .before .before .before .loop-test .taken) (c .before .before .before .before .before .before .before .before .before .before .before .before .per-row .ensures) refl refl (s .pre .0)) (put-then (l .loop .inv .1) (put-then (c .before .before .before .before .before .before .before .bits .ensures) (c .before .before .bytes .ensures))), search needs)
 
 same-length : tie.Need-same-length Inv-loop μ-loop
 same-length c = search needs
@@ -110,7 +109,7 @@ row-lines-spec =
     (tie.spec
     Inv-loop
     μ-loop
-    words-requires
+    per-row-requires
     loop-holds
     mul-a
     add-e

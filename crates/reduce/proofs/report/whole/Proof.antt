@@ -1,6 +1,6 @@
 -- One entry after the other, then the count; or the refusal.
 use denote.Ref.{now}
-use mathlib.Core.List.{List, [], _++_}
+use mathlib.Core.List.{List, _++_}
 use mathlib.Core.Path.{_≡_, refl, sym, ap, _∙_, subst}
 use Prim.Native.Nat.{ℕ, _-_, _≤_, _<_}
 use lib.ListN.{length}
@@ -39,7 +39,7 @@ loop-holds : tie.Need-loop-holds Inv-loop μ-loop
 unfolding entriesText entriesFrom
 loop-holds c =
     let g = c .before .before .before .before .before .before .before .before .args in
-    (search needs, subst (λ (r : ℕ). Put 0 [] (now (g .out)) r (now (g .out))) (omega arith) (put-none 0 (now (g .out))), refl, refl, refl)
+    (search needs, put-none 0 0 (now (g .out)) (omega arith), refl, refl, refl)
 
 entry-requires : tie.Need-entry-requires Inv-loop μ-loop
 entry-requires c κs =

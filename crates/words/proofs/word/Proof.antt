@@ -6,10 +6,10 @@ use Prim.Native.Nat.{ℕ, _-_, _≤_, min}
 use native.Mathlib.Omega.{arith}
 use lib.ListN.{length, getD, drop, length-take, length-drop, List·getD-eq-default}
 use Rattle.gf2.specs.Rows.{part}
 use Rattle.words.proofs.Parts.{getD-part}
 use borrow.Author.Needs.{needs}
-use Rattle.refusals.proofs.word.Statement.{statement}
-use Rattle.refusals.proofs.word.Tie as tie
+use Rattle.words.proofs.word.Statement.{statement}
+use Rattle.words.proofs.word.Tie as tie
 
 none : (m : List ℕ) (at w l : ℕ) → min w (length m - at) ≤ l → 0 ≡ getD (part at w m) l 0
 none m at w l h = sym (List·getD-eq-default (part at w m) 0 {n = l} (omega (arith, length-take w (drop at m), length-drop at m)))

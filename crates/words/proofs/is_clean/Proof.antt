@@ -7,12 +7,12 @@ use borrow.Author.Count.{below-more, below-none}
 use borrow.Author.Needs.{needs}
 use lib.ListN.{getD}
 use Rattle.gf2.specs.Rows.{row}
 use Rattle.words.specs.Words.{rowsOf}
 use Rattle.words.proofs.Rows.{row-ends, length-rows, last-word-row, last-word-row-full}
 use Rattle.words.proofs.Value.{fits-fit}
-use Rattle.refusals.proofs.Padding.{narrow-all, narrow-not}
-use Rattle.refusals.proofs.is_clean.Statement.{statement}
-use Rattle.refusals.proofs.is_clean.Tie as tie
+use Rattle.words.proofs.Padding.{narrow-all, narrow-not}
+use Rattle.words.proofs.is_clean.Statement.{statement}
+use Rattle.words.proofs.is_clean.Tie as tie
 
 abbrev Inv-loop : tie.InvT-loop
 Inv-loop m w rows columns s i₀ i = ((k : ℕ) → k < i → row (rowsOf w rows m) k < 2 ^ columns) × (i ≤ rows)

@@ -4,10 +4,10 @@ use mathlib.Core.Path.{sym, ap, _∙_}
 use Prim.Native.Nat.{ℕ}
 use native.Mathlib.Nat.{min-eq-left, min-eq-right}
 use lib.ListN.{length}
-use Rattle.engine.specs.Core.{zeroed}
+use Rattle.words.specs.Words.{zeroed}
 use borrow.Author.Needs.{needs}
-use Rattle.engine.proofs.blank.Statement.{statement}
-use Rattle.engine.proofs.blank.Tie as tie
+use Rattle.engine.proofs.zero_front.Statement.{statement}
+use Rattle.engine.proofs.zero_front.Tie as tie
 
 zero-requires : tie.Need-zero-requires
 zero-requires c κs = search needs
@@ -31,5 +31,5 @@ returns-2 c =
     let g = c .before .before .before .before .before .before .args in
     c .before .before .zero2 .ensures ∙ ap (λ (x : ℕ). zeroed 0 x (now (g .d))) (sym (min-eq-right {n = length (now (g .d))} {m = g .len} (search needs)))
 
-pub blank-spec : {M : Type 1} → statement M
-blank-spec = tie.close (tie.spec zero-requires zero-requires-2 same-length returns same-length-2 returns-2)
+pub zero-front-spec : {M : Type 1} → statement M
+zero-front-spec = tie.close (tie.spec zero-requires zero-requires-2 same-length returns same-length-2 returns-2)

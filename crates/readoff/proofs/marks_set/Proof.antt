@@ -7,8 +7,8 @@ use lib.ListN.{drop}
 use Rattle.images.specs.ReadOff.{marked}
 use borrow.Author.Needs.{needs}
 use native.Mathlib.Omega.{arith}
-use Rattle.readoff.proofs.count.Statement.{statement}
-use Rattle.readoff.proofs.count.Tie as tie
+use Rattle.readoff.proofs.marks_set.Statement.{statement}
+use Rattle.readoff.proofs.marks_set.Tie as tie
 
 abbrev Inv-loop : tie.InvT-loop
 Inv-loop marks n sum₀ j₀ sum j = (sum + marked (drop j marks) ≡ marked marks) × (sum ≤ j) × (j ≤ n)
@@ -35,13 +35,16 @@ loop-less : tie.Need-loop-less Inv-loop μ-loop
 loop-less c = search needs
 
 loop-again : tie.Need-loop-again Inv-loop μ-loop
-loop-again c = let g = c .before .before .before .args in (marked-turn (now (g .marks)) (c .before .before .loop .sum) (c .before .before .loop .j) (c .before .before .loop .inv .0) (search needs), omega (arith, c .before .before .before .pre (c .before .before .loop .j), c .before .before .loop .inv .1), search needs)
+loop-again c =
+    let s = c .before .before in
+    let l = s .loop in
+    (marked-turn (now (s .before .args .marks)) (l .sum) (l .j) (l .inv .0) (search needs), omega (arith, s .before .pre (l .j), l .inv .1), search needs)
 
 returns : tie.Need-returns Inv-loop μ-loop
 returns c = let g = c .before .before .args in marked-end (now (g .marks)) (c .before .loop .sum) (c .before .loop .j) (c .before .loop .inv .0) (search needs)
 
-pub count-spec : {M : Type 1} → statement M
-count-spec =
+pub marks-set-spec : {M : Type 1} → statement M
+marks-set-spec =
     tie.close
     (tie.spec
     Inv-loop

@@ -12,8 +12,7 @@ use lib.Dec.{T, ltb, leb}
 use lib.ListN.{length}
 use lib.Pow.{pow-pos}
 use Rattle.gf2.specs.Rows.{row}
-use Rattle.words.specs.Words.{wordsOf, rowsOf}
-use Rattle.refusals.specs.Checks.{narrow, holdsRows}
+use Rattle.words.specs.Words.{wordsOf, rowsOf, Clean, narrow, holdsRows}
 
 -- ---- row by row
 
@@ -74,13 +73,16 @@ holds-fits rows w len h l = go (decLt len (rows * w))
 pub holds-narrow : (rows columns : ℕ) (m : List ℕ) → rows * wordsOf columns ≤ length m → narrow columns (rowsOf (wordsOf columns) rows m) ≡ holdsRows rows columns m
 holds-narrow rows columns m l = rw (le-leb (rows * wordsOf columns) (length m) l)
 
--- what `holds` says
-pub holds-exactly : (rows columns : ℕ) (m : List ℕ) → (holdsRows rows columns m ≡ true) ↔ ((rows * wordsOf columns ≤ length m) × ((i : ℕ) → row (rowsOf (wordsOf columns) rows m) i < 2 ^ columns))
-holds-exactly rows columns m = (go (leb (rows * wordsOf columns) (length m)) refl, λ t. ap₂ _&&_ (le-leb (rows * wordsOf columns) (length m) (t .0)) (sym (narrow-all columns L (λ i l. t .1 i))))
+-- what `holdsRows` says
+pub holds-exactly : (rows columns : ℕ) (m : List ℕ) → (holdsRows rows columns m ≡ true) ↔ ((rows * wordsOf columns ≤ length m) × Clean rows columns m)
+holds-exactly rows columns m = (go (leb (rows * wordsOf columns) (length m)) refl, back)
   where
     L : List ℕ
     L = rowsOf (wordsOf columns) rows m
 
-    go : (b : Bool) → leb (rows * wordsOf columns) (length m) ≡ b → b && narrow columns L ≡ true → (rows * wordsOf columns ≤ length m) × ((i : ℕ) → row L i < 2 ^ columns)
+    back : (rows * wordsOf columns ≤ length m) × Clean rows columns m → holdsRows rows columns m ≡ true
+    back t = ap₂ _&&_ (le-leb (rows * wordsOf columns) (length m) (t .0)) (sym (narrow-all columns L (λ i l. t .1 i)))
+
+    go : (b : Bool) → leb (rows * wordsOf columns) (length m) ≡ b → b && narrow columns L ≡ true → (rows * wordsOf columns ≤ length m) × Clean rows columns m
     go true t e = (leb-true (rows * wordsOf columns) (length m) t, narrow-row columns L e)
     go false t e = absurd (subst T (sym e) tt)
