@@ -1,3 +1,4 @@
+#![tactic(auto)]
 // A matrix with an identity on its right, reduced in one room.
 ghost use Rattle.std.specs.Prelude.{◌≡◌, ◌+◌, ◌*◌, ◌^◌, ◌≤◌, length, drop};
 ghost use Rattle.std.proofs.Math.Seq.{paste};

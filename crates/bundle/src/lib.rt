@@ -1,3 +1,4 @@
+#![tactic(auto)]
 // A bundle of matrices as bytes: contents first, then bodies. Reading it, an entry's numbers, an entry's words.
 mod body;
 pub mod ruled;

@@ -1,3 +1,4 @@
+#![tactic(auto)]
 // The calls with C's calling convention. A slice is passed as a pointer and a length; include/chhayublo.h declares all of it for C.
 ghost use Rattle.std.specs.Prelude.{◌≡◌, length};
 ghost use Rattle.gf2.specs.Rows.{part};

@@ -1,3 +1,4 @@
+#![tactic(auto)]
 // What programs on bundles share: a refusal as a line, an entry unpacked and reduced.
 ghost use Rattle.std.specs.Prelude.{◌≡◌, ◌*◌, ◌≤◌, length};
 ghost use Rattle.text.specs.Put.{Put};

@@ -1,3 +1,4 @@
+#![tactic(auto)]
 // The reduction by the table, over lists of words: a total core for every call above it. Two forms, for matrix and table in two slices, and in one room.
 // Names throughout: m holds a matrix of n rows of w words. A window is the k columns from column c on; base rows have their pivots left of it, r (while they are
 // sought: s) have theirs in it, and x counts its columns from 0. t is the table. h and o have a byte for each row: see search.rt; in table.rt and room.rt, o has the

@@ -1,3 +1,4 @@
+#![tactic(auto)]
 // The inverse of a square matrix.
 ghost use Rattle.std.specs.Prelude.{length};
 ghost use Rattle.refusals.specs.Checks.{InversePasses};

@@ -1,3 +1,4 @@
+#![tactic(auto)]
 // The row view, and the reduction by the table.
 ghost use Rattle.std.specs.Prelude.{◌≡◌, length};
 ghost use Rattle.words.specs.Words.{StandsAt};

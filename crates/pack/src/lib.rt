@@ -1,3 +1,4 @@
+#![tactic(auto)]
 // A bundle written from lists of kinds, rows, columns and words.
 mod check;
 mod put;

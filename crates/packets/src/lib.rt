@@ -1,3 +1,4 @@
+#![tactic(auto)]
 // Packets: the blocks that a list of packets makes known, and the packets of a list that contradict each other.
 ghost use Rattle.std.specs.Prelude.{◌≡◌, length};
 ghost use Rattle.gf2.specs.Additions.{additions};

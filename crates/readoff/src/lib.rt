@@ -1,3 +1,4 @@
+#![tactic(auto)]
 // What is read off a reduced matrix. Nothing here knows how it came to be reduced, and every answer is defined for matrices that are not.
 ghost use Rattle.std.specs.Prelude.{◌≡◌, ◌&&◌, [], ℕ, ◌+◌, ◌*◌, ◌/◌, ◌%◌, ◌^◌, ◌≤◌, ◌<◌, eqb, leb, ltb, length, get_or, set};
 ghost use Rattle.std.proofs.Math.Seq.{paste};

@@ -1,3 +1,4 @@
+#![tactic(auto)]
 // The reduced form of each entry of a bundle: its shape, its rank, the table additions, and the rows that are not zero.
 // The bundle comes from standard input, and the report goes to standard output; a stream that fails is told on standard error.
 mod report;

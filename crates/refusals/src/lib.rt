@@ -1,3 +1,4 @@
+#![tactic(auto)]
 // The refusals, and the checks that give them: each check once, total and exact for all numbers.
 ghost use Rattle.std.specs.Prelude.{◌≡◌, ◌+◌, ◌-◌, ◌*◌, ◌^◌, eqb, ltb};
 ghost use Rattle.refusals.specs.Outcome.{number_of, outcome_number, refuse_if, ◌and_then◌, first};

@@ -1,3 +1,4 @@
+#![tactic(auto)]
 // Streams, read to their end and written whole. What was interrupted, or would wait, is tried again; whatever else fails is told.
 ghost use Rattle.std.specs.Prelude.{◌≡◌, true, ◌<◌, length};
 ghost use Rattle.stream.specs.Stream.{Within};

@@ -1,3 +1,4 @@
+#![tactic(auto)]
 // Text in a lent buffer. Each call puts its text at byte p, as much as there is room for, and answers where the text ends.
 ghost use Rattle.std.specs.Prelude.{◌≡◌, [], ◌∷◌, ◌+◌, min};
 ghost use Rattle.gf2.specs.Rows.{bit};

@@ -1,3 +1,4 @@
+#![tactic(auto)]
 // Tries the library's calls on worked examples, and on drawn matrices against a plain reduction; writes how many tries went wrong: none should.
 mod buffer;
 mod calls;

@@ -1,3 +1,4 @@
+#![tactic(auto)]
 // The order of bits that a kind gives a word.
 ghost use Rattle.std.specs.Prelude.{◌≡◌, not, ◌+◌, ◌*◌, ◌/◌, ◌^◌, ◌≤◌, eqb};
 ghost use Rattle.wire.specs.Kinds.{reversed, order};

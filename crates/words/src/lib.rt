@@ -1,3 +1,4 @@
+#![tactic(auto)]
 // The words of a buffer as rows, each one number.
 ghost use Rattle.std.specs.Prelude.{◌≡◌, ◌*◌, ◌%◌, ◌≤◌, ◌<◌, length, get_or};
 ghost use Rattle.gf2.specs.Rows.{part};
