@@ -19,7 +19,7 @@ use Rattle.words.proofs.Rows.{length_rows}
 use Rattle.words.proofs.Padding.{holds_exactly}
 use Rattle.refusals.specs.declared.Outcome.{Outcome}
 use Rattle.refusals.specs.Outcome.{outcome_number, Decides, DoneIf, first}
-use Rattle.refusals.specs.Checks.{size_checks, too_wide, badK, short_room, Sized, Window}
+use Rattle.refusals.specs.Checks.{size_checks, too_wide, bad_k, short_room, Sized, Window}
 use Rattle.refusals.proofs.Chain.{passed, passing}
 use Rattle.refusals.proofs.Passed.{number_zero, sizes_done, done_sizes, wide_done, done_wide, window_done, done_window, room_done, done_room}
 use Rattle.engine.specs.declared.Eliminated.{Eliminated}
@@ -30,7 +30,7 @@ use Rattle.beside.specs.Beside.{FitsBeside, Beside, BesideReduced}
 
 module _ (rows columns k : ℕ) where
   abbrev pub numbers : List Outcome
-  numbers = size_checks rows columns ∷ too_wide columns rows ∷ badK k ∷ []
+  numbers = size_checks rows columns ∷ too_wide columns rows ∷ bad_k k ∷ []
 
   -- what these checks leave
   pub record Numbers : Type 0 where

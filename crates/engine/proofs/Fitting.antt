@@ -16,14 +16,14 @@ use Rattle.words.proofs.Rows.{rows_past}
 use Rattle.refusals.specs.declared.Outcome.{Outcome}
 use Rattle.refusals.specs.declared.Outcome.TheVariants.{Done}
 use Rattle.refusals.specs.Outcome.{outcome_number, Decides, DoneIf, ◌and_then◌}
-use Rattle.refusals.specs.Checks.{bad_columns, badK, short_room}
+use Rattle.refusals.specs.Checks.{bad_columns, bad_k, short_room}
 use Rattle.refusals.proofs.Passed.{number_zero, then_done, done_then, columns_done, done_columns, window_done, done_window, room_done, done_room}
 use Rattle.engine.specs.declared.Eliminated.{Eliminated}
 use Rattle.engine.specs.Core.{Fits, ReducedTo, TwoSlices, OneRoom}
 
 -- the checks of numbers
 abbrev pub checks : ℕ → ℕ → ℕ → ℕ → Outcome
-checks columns k more room = bad_columns columns and_then badK k and_then short_room more k columns room
+checks columns k more room = bad_columns columns and_then bad_k k and_then short_room more k columns room
 
 module _ (rows columns k more room list : ℕ) (m : List ℕ) where
   fits_checks : Fits rows columns k more room list m → checks columns k more room ≡ Done
@@ -38,8 +38,8 @@ module _ (rows columns k more room list : ℕ) (m : List ℕ) where
   pub right_shape : {o : Outcome} → o ≡ checks columns k more room → outcome_number o ≡ 0 → rows ≤ 1024 → rows ≤ list
       → (b : Bool) → b ≡ holds_rows rows columns m → Decides b (Fits rows columns k more room list m)
   right_shape e z few listed true t =
-      let s = then_done (bad_columns columns and_then badK k) (short_room more k columns room) (sym e ∙ number_zero _ z) in
-      let u = then_done (bad_columns columns) (badK k) s.0 in
+      let s = then_done (bad_columns columns and_then bad_k k) (short_room more k columns room) (sym e ∙ number_zero _ z) in
+      let u = then_done (bad_columns columns) (bad_k k) s.0 in
       let d = columns_done columns u.0 in
       let h = (holds_exactly rows columns m).0 (sym t) in
       record {

@@ -64,8 +64,8 @@ module _ (rows columns n : ℕ) (m m' m₂ image image' image₂ marks marks' ma
                 ap (λ (x : Answer). x.pivots) f ∙ ap (pivot_record 512) same_rows ∙ sym (ap (λ (x : Answer). x.pivots) g),
               ),
               λ h. (
-                  f ∙ ap₂ (λ (x : List ℕ → ℕ) (y : List ℕ). solving.solvedAnswer x y r.known) h same_rows
-                  ∙ ap (solving.solvedAnswer counts₂ N₂) o.2 ∙ sym g
+                  f ∙ ap₂ (λ (x : List ℕ → ℕ) (y : List ℕ). solving.solved_answer x y r.known) h same_rows
+                  ∙ ap (solving.solved_answer counts₂ N₂) o.2 ∙ sym g
                   ),
             )
         go (inr c) (inr d) =

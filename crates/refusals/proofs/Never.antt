@@ -13,7 +13,7 @@ use Rattle.refusals.specs.declared.Refusal.TheVariants.{TooManyRows, BadColumns,
 use Rattle.refusals.specs.declared.Outcome.{Outcome}
 use Rattle.refusals.specs.declared.Outcome.TheVariants.{Done, Refused}
 use Rattle.refusals.specs.Outcome.{number_of, outcome_number, refuse_if, ◌and_then◌, first}
-use Rattle.refusals.specs.Checks.{too_many_rows, bad_columns, size_checks, badK, wrong_length, short_room, bad_blocks, not_square, wrong_buffer, wrong_marks, dirty_padding, inverse_shapes, inverse_order, inverse_checks, solving_shapes, solving_order, solving_checks}
+use Rattle.refusals.specs.Checks.{too_many_rows, bad_columns, size_checks, bad_k, wrong_length, short_room, bad_blocks, not_square, wrong_buffer, wrong_marks, dirty_padding, inverse_shapes, inverse_order, inverse_checks, solving_shapes, solving_order, solving_checks}
 use Rattle.refusals.proofs.Chain.{Each, chain}
 
 -- the outcome is not this refusal
@@ -49,8 +49,8 @@ module _ (r : Refusal) (from : 8 < number_of r) (to : number_of r < 11) where
   not_sizes rows columns =
       nor (not_if (ltb 512 rows) TooManyRows (inl (lit< tt))) (nor (not_if (eqb columns 0) BadColumns (inl (lit< tt))) (not_if (ltb 1024 columns) BadColumns (inl (lit< tt))))
 
-  not_k : (k : ℕ) → Never r (badK k)
-  unfolding badK
+  not_k : (k : ℕ) → Never r (bad_k k)
+  unfolding bad_k
   not_k k = nor (not_if (eqb k 0) BadK (inl (lit< tt))) (not_if (ltb 8 k) BadK (inl (lit< tt)))
 
   not_blocks : (n columns : ℕ) → Never r (bad_blocks n columns)

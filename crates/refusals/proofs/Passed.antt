@@ -16,7 +16,7 @@ use Rattle.refusals.specs.declared.Refusal.TheVariants.{TooManyRows, BadColumns,
 use Rattle.refusals.specs.declared.Outcome.{Outcome}
 use Rattle.refusals.specs.declared.Outcome.TheVariants.{Done, Refused}
 use Rattle.refusals.specs.Outcome.{number_of, outcome_number, refuse_if, Decides, ◌and_then◌, first}
-use Rattle.refusals.specs.Checks.{too_many_rows, bad_columns, size_checks, badK, wrong_length, short_room, not_below, dirty_padding, bad_blocks, not_square, too_wide, wrong_buffer, wrong_marks, view_order, view_checks, reduction_order, reduction_checks, inverse_shapes, inverse_order, inverse_checks, solving_shapes, solving_order, solving_checks, contradiction_shapes, contradiction_order, contradiction_checks, Sized, Window, Parted, ViewPasses, ReductionPasses, InversePasses, SolvingPasses, ContradictionPasses}
+use Rattle.refusals.specs.Checks.{too_many_rows, bad_columns, size_checks, bad_k, wrong_length, short_room, not_below, dirty_padding, bad_blocks, not_square, too_wide, wrong_buffer, wrong_marks, view_order, view_checks, reduction_order, reduction_checks, inverse_shapes, inverse_order, inverse_checks, solving_shapes, solving_order, solving_checks, contradiction_shapes, contradiction_order, contradiction_checks, Sized, Window, Parted, ViewPasses, ReductionPasses, InversePasses, SolvingPasses, ContradictionPasses}
 use Rattle.refusals.proofs.Chain.{Passes, passing, passed}
 pub use Rattle.refusals.proofs.Chain.{refused_not, then_done, done_then}
 
@@ -111,14 +111,14 @@ pub done_sizes : (rows columns : ℕ) → Sized 512 rows columns → Passes (siz
 unfolding size_checks
 done_sizes rows columns s = done_then (done_few rows s.few) (done_columns columns s.some s.wide)
 
-pub window_done : (k : ℕ) → Passes (badK k) → Window k
-unfolding badK
+pub window_done : (k : ℕ) → Passes (bad_k k) → Window k
+unfolding bad_k
 window_done k e =
     let t = then_done (refuse_if (eqb k 0) _) (refuse_if (ltb 8 k) _) e in
     record { least = pos (eqb-false k 0 (if_done (eqb k 0) _ t.0)); most = ltb-false 8 k (if_done (ltb 8 k) _ t.1) }
 
-pub done_window : (k : ℕ) → Window k → Passes (badK k)
-unfolding badK
+pub done_window : (k : ℕ) → Window k → Passes (bad_k k)
+unfolding bad_k
 done_window k w = done_then (done_if _ (ne_eqb k 0 (λ e. omega (arith, w.least)))) (done_if _ (le-ltb 8 k w.most))
 
 parted_done : (n columns : ℕ) → Passes (bad_blocks n columns) → Parted n columns

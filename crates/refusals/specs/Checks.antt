@@ -18,8 +18,8 @@ unfoldable pub size_checks : ℕ → ℕ → Outcome
 size_checks rows columns = too_many_rows rows and_then bad_columns columns
 
 -- 3: k is 0, or over 8
-unfoldable pub badK : ℕ → Outcome
-badK k = refuse_if (eqb k 0) BadK and_then refuse_if (ltb 8 k) BadK
+unfoldable pub bad_k : ℕ → Outcome
+bad_k k = refuse_if (eqb k 0) BadK and_then refuse_if (ltb 8 k) BadK
 
 -- 4: not exactly rows x words
 unfoldable pub wrong_length : ℕ → ℕ → ℕ → Outcome
@@ -69,7 +69,7 @@ view_checks rows columns len i = first (view_order rows columns len i)
 -- the reduction: 1, 2, 3, 4, 6, 5
 abbrev pub reduction_order : ℕ → ℕ → ℕ → List ℕ → ℕ → List Outcome
 reduction_order rows columns k m room =
-    size_checks rows columns ∷ badK k ∷ wrong_length rows columns (length m) ∷ short_room 0 k columns room ∷ dirty_padding rows columns m ∷ []
+    size_checks rows columns ∷ bad_k k ∷ wrong_length rows columns (length m) ∷ short_room 0 k columns room ∷ dirty_padding rows columns m ∷ []
 
 abbrev pub reduction_checks : ℕ → ℕ → ℕ → List ℕ → ℕ → Outcome
 reduction_checks rows columns k m room = first (reduction_order rows columns k m room)
@@ -77,7 +77,7 @@ reduction_checks rows columns k m room = first (reduction_order rows columns k m
 -- the inverse: 1, 2, 8, 3, 4, 13; then 6, 5. A matrix that is read, a result of as many words; a room for the matrix beside an identity, and the table
 abbrev pub inverse_shapes : ℕ → ℕ → ℕ → ℕ → ℕ → List Outcome
 inverse_shapes rows columns k len result =
-    size_checks rows columns ∷ not_square rows columns ∷ badK k ∷ wrong_length rows columns len ∷ wrong_buffer rows columns result ∷ []
+    size_checks rows columns ∷ not_square rows columns ∷ bad_k k ∷ wrong_length rows columns len ∷ wrong_buffer rows columns result ∷ []
 
 abbrev pub inverse_order : ℕ → ℕ → ℕ → List ℕ → ℕ → ℕ → List Outcome
 inverse_order rows columns k m result room =
@@ -89,7 +89,7 @@ inverse_checks rows columns k m result room = first (inverse_order rows columns 
 -- solving: 1, 2, 7, 3, 4, 13; then 6, 5. An image of n blocks, and their marks: 13 for either
 abbrev pub solving_shapes : ℕ → ℕ → ℕ → ℕ → ℕ → ℕ → ℕ → List Outcome
 solving_shapes rows columns n k len image marks =
-    size_checks rows columns ∷ bad_blocks n columns ∷ badK k ∷ wrong_length rows columns len ∷ wrong_buffer n (columns - n) image ∷ wrong_marks n marks ∷ []
+    size_checks rows columns ∷ bad_blocks n columns ∷ bad_k k ∷ wrong_length rows columns len ∷ wrong_buffer n (columns - n) image ∷ wrong_marks n marks ∷ []
 
 abbrev pub solving_order : ℕ → ℕ → ℕ → ℕ → List ℕ → ℕ → ℕ → ℕ → List Outcome
 solving_order rows columns n k m image marks room =
@@ -101,7 +101,7 @@ solving_checks rows columns n k m image marks room = first (solving_order rows c
 -- the contradiction call: 1, 2, 7, 11, 3, 4, 13; then 6, 5. The words that name packets; a room for the packets beside an identity, and the table
 abbrev pub contradiction_shapes : ℕ → ℕ → ℕ → ℕ → ℕ → ℕ → List Outcome
 contradiction_shapes rows columns n k len named =
-    size_checks rows columns ∷ bad_blocks n columns ∷ too_wide columns rows ∷ badK k ∷ wrong_length rows columns len ∷ wrong_buffer 1 rows named ∷ []
+    size_checks rows columns ∷ bad_blocks n columns ∷ too_wide columns rows ∷ bad_k k ∷ wrong_length rows columns len ∷ wrong_buffer 1 rows named ∷ []
 
 abbrev pub contradiction_order : ℕ → ℕ → ℕ → ℕ → List ℕ → ℕ → ℕ → List Outcome
 contradiction_order rows columns n k m named room =

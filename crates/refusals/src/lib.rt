@@ -2,9 +2,9 @@
 // The refusals, and the checks that give them: each check once, total and exact for all numbers.
 ghost use Rattle.std.specs.Prelude.{◌≡◌, ◌+◌, ◌-◌, ◌*◌, ◌^◌, eqb, ltb};
 ghost use Rattle.refusals.specs.Outcome.{number_of, outcome_number, refuse_if, ◌and_then◌, first};
-ghost use Rattle.refusals.specs.Checks.{too_many_rows, bad_columns, size_checks, badK, wrong_length, short_room, bad_blocks, not_square, too_wide, wrong_buffer, wrong_marks, not_below, dirty_padding, view_checks, reduction_checks, inverse_shapes, inverse_checks, solving_shapes, solving_checks, contradiction_shapes, contradiction_checks};
+ghost use Rattle.refusals.specs.Checks.{too_many_rows, bad_columns, size_checks, bad_k, wrong_length, short_room, bad_blocks, not_square, too_wide, wrong_buffer, wrong_marks, not_below, dirty_padding, view_checks, reduction_checks, inverse_shapes, inverse_checks, solving_shapes, solving_checks, contradiction_shapes, contradiction_checks};
 
-#[derive(Drop)]
+#[derive(Clone, Copy)]
 pub enum Refusal {
     TooManyRows,
     BadColumns,
@@ -31,7 +31,7 @@ pub enum Refusal {
     BundleOver,
 }
 
-#[derive(Drop)]
+#[derive(Clone, Copy)]
 pub enum Outcome {
     Done,
     Refused(Refusal),
@@ -124,7 +124,7 @@ pub fn sizes(rows: usize, columns: usize) -> Outcome
 }
 
 pub fn bad_k(k: usize) -> Outcome
-    ensures { result ≡ badK k }
+    ensures { result ≡ bad_k k }
 {
     refuse_if(k == 0, Refusal::BadK).and_then(refuse_if(8 < k, Refusal::BadK))
 }

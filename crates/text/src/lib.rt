@@ -3,7 +3,7 @@
 ghost use Rattle.std.specs.Prelude.{◌≡◌, [], ◌∷◌, ◌+◌, min};
 ghost use Rattle.gf2.specs.Rows.{bit};
 ghost use Rattle.words.specs.Words.{value};
-ghost use Rattle.text.specs.Text.{decimal as decimalText, bits as bitsText};
+ghost use Rattle.text.specs.Text.{decimal as decimal_text, bits as bits_text};
 ghost use Rattle.text.specs.Put.{Put};
 
 // where to begin: not past the buffer
@@ -39,7 +39,7 @@ pub fn bytes(out: &mut [u8], p: usize, text: &[u8]) -> usize
 
 // a number in decimal
 pub fn decimal(out: &mut [u8], p: usize, n: usize) -> usize
-    ensures { Put p (decimalText n) out.old result out.new }
+    ensures { Put p (decimal_text n) out.old result out.new }
 {
     let mut text = [0u8; 20];
     let k = io::decimal(n as u64, &mut text);
@@ -56,7 +56,7 @@ fn digit(row: &[u64], c: usize) -> u8
 
 // the columns of a row as zeros and ones
 pub fn bits(out: &mut [u8], p: usize, row: &[u64], columns: usize) -> usize
-    ensures { Put p (bitsText columns (value row.now)) out.old result out.new }
+    ensures { Put p (bits_text columns (value row.now)) out.old result out.new }
 {
     let mut q = start(p, out.len());
     let mut c = 0;

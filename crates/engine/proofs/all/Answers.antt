@@ -1,0 +1,122 @@
+-- Each turn does one window; after the last all columns are done.
+use mathlib.Core.Path.{◌≡◌, refl, sym, ◌∙◌}
+use Prim.Native.Nat.{ℕ, ◌-◌, ◌*◌, ◌^◌, ◌≤◌, ◌<◌}
+use native.Mathlib.Omega.{arith}
+use borrow.Author.Rules.{rules}
+use lib.ListN.{length, drop, length-replicate}
+use Rattle.gf2.specs.Rows.{row}
+use Rattle.gf2.specs.Additions.{windows}
+use Rattle.gf2.proofs.Additions.{window_starts}
+use Rattle.words.specs.Words.{rows_of}
+use Rattle.words.proofs.Rows.{length_rows}
+use Rattle.engine.proofs.Fitting.{table_fits, rows_fit}
+use Rattle.engine.proofs.Windows.{Passed, passed_start, passed_next, finished, table_room, steps_small, table_small, table_rest}
+use Rattle.engine.proofs.all.Goals as goal
+
+clean : (s : tie.Start invariant-loop decreases-loop) → (i : ℕ) → row (rows_of s.args.w s.args.n s.args.m.now) i < 2 ^ s.args.columns
+clean s i = rw s.requires.0 (s.requires.1.shape.clean i)
+
+-- a window starts left of the last column
+starts : (c : tie.In-loop invariant-loop decreases-loop) → let s = c.before.before.before.before.before.before.before in c.before.loop.j * s.args.k < s.args.columns
+starts c =
+    let s = c.before.before.before.before.before.before.before in
+    let l : c.before.loop.j < windows s.args.k s.args.columns = omega (arith, c.loop-test.true, c.before.before.window-count.ensures) in
+    window_starts s.args.k s.args.columns c.before.loop.j s.requires.1.table.window.least l
+
+few_additions : (c : tie.After-window invariant-loop decreases-loop) → c.window.result.additions ≤ 255
+few_additions c =
+    let d = c.before.before.before.before.before.before.before in
+    let p = d.before.before.before.before.before.before.before.before.requires in
+    let h = c.window.ensures in
+    omega (arith, h.3, table_small c.window.result.rank (omega (arith, h.0.few, d.width.ensures.1, p.1.table.window.most)))
+
+pub window_count-end-requires : goal.window_count-end-requires
+window_count-end-requires c = let f = c.requires.1 in (f.table.window.least, f.table.window.most, f.shape.sized.wide)
+
+pub loop-j-init : goal.loop-j-init
+loop-j-init c =
+    let p = c.requires in
+    let bytes = length-replicate {A = ℕ} 1024 0 in
+    (passed_start p.1.shape.listed p.2, omega arith, omega arith, refl, refl, refl, refl, bytes, bytes, refl)
+
+pub overflow_mul-c : goal.overflow_mul-c
+overflow_mul-c c = omega (arith, starts c, c.requires.1.shape.sized.wide)
+
+pub width-kw-requires : goal.width-kw-requires
+width-kw-requires c = (c.requires.1.table.window.least, starts c)
+
+pub slice_bounds-window-end : goal.slice_bounds-window-end
+slice_bounds-window-end c = sym c.loop-j.invariant.7
+
+pub slice_bounds-window-end-in-loop-j : goal.slice_bounds-window-end-in-loop-j
+slice_bounds-window-end-in-loop-j c = sym c.loop-j.invariant.8
+
+pub window-p-requires : goal.window-p-requires
+window-p-requires c =
+    let g = c.args in
+    let e = c.requires.0 in
+    let f = c.requires.1 in
+    let v = c.loop-j.invariant in
+    let h = c.width-kw.ensures in
+    let few = f.shape.sized.few in
+    let most = f.table.window.most in
+    let narrow : g.w ≤ 16 = omega (arith, e, f.shape.sized.wide) in (
+      record { fits = omega (arith, rows_fit e f, v.5); narrow = narrow; few = omega (arith, few) },
+      omega (arith, h.2, e),
+      h.0,
+      omega (arith, h.1, most),
+      omega (arith, table_fits e f, v.6, table_room c.width-kw.result g.k g.w h.1),
+      omega (arith, v.7, few),
+      omega (arith, v.8, few),
+      v.0.stage,
+      c.book-codes.ensures,
+    )
+
+pub overflow_add-additions : goal.overflow_add-additions
+overflow_add-additions c =
+    let few = steps_small c.loop-j.j c.args.k c.args.columns c.requires.1.table.window.least (starts i) in
+    omega (arith, c.loop-j.invariant.1, few_additions f, few, c.requires.1.shape.sized.wide)
+
+pub overflow_add-rank : goal.overflow_add-rank
+overflow_add-rank c =
+    omega (arith, c.window-p.ensures.0.stage.room, c.requires.1.shape.sized.few)
+
+pub loop-j-smaller : goal.loop-j-smaller
+loop-j-smaller c = omega (arith, c.loop-j-test.true)
+
+pub loop-j-preserved : goal.loop-j-preserved
+loop-j-preserved c =
+    let l = c.loop-j in
+    let g = c.args in
+    let f = c.window-p in
+    let h = c.width-kw.ensures in
+    let v = l.invariant in
+    let rest = table_rest c.width-kw.result g.k g.w f.new.1.1.1.1.1.1.1.0 l.t h.1 f.ensures.2 in (
+      passed_next h.1 h.3 (clean s) v.0 f.ensures.0 f.ensures.3,
+      omega (arith, v.1, few_additions a),
+      omega (arith, c.loop-j-test.true),
+      f.ensures.1 ∙ v.3,
+      rest ∙ v.4,
+      f.auto.1.0 ∙ v.5,
+      f.auto.1.1.1.1.1.1.1.0 ∙ v.6,
+      f.auto.1.1.1.1.1.1.1.1.0 ∙ v.7,
+      f.auto.1.1.1.1.1.1.1.1.1.0 ∙ v.8,
+      f.auto.1.1.1.1.1.1.1.1.1.1.0 ∙ v.9,
+    )
+
+pub shape_of-m : goal.shape_of-m
+shape_of-m c = c.loop-j.invariant.5
+
+pub shape_of-t : goal.shape_of-t
+shape_of-t c = c.loop-j.invariant.6
+
+pub shape_of-cols : goal.shape_of-cols
+shape_of-cols c = c.loop-j.invariant.9
+
+pub returns : goal.returns
+returns c =
+    let l = c.loop-j in
+    let g = c.args in
+    let e : l.j ≡ windows g.k g.columns = omega (arith, c.loop-j-test.false, l.invariant.2, c.window_count-end.ensures) in
+    let size = length_rows g.w g.n in
+    (refl, finished c.requires.1.table.window.least (size l.m) (size g.m.now) (clean s) e l.invariant.0, l.invariant.3, l.invariant.4)
