@@ -1,11 +1,9 @@
 -- Row after row: adjoined_more is a turn of the loop, and adjoined_all its end.
-use mathlib.Core.Path.{◌≡◌}
-use Prim.Native.Nat.{ℕ, ◌-◌, ◌≤◌}
+use Prim.Native.Nat.{ℕ}
 use native.Mathlib.Omega.{arith}
-use lib.ListN.{length}
 use Rattle.words.proofs.Value.{fits_fit}
 use Rattle.words.proofs.Rows.{row_end}
-use Rattle.beside.proofs.Rows.{Adjoined, adjoined_none, adjoined_more, adjoined_all}
+use Rattle.beside.proofs.Rows.{adjoined_none, adjoined_more, adjoined_all}
 use borrow.Author.Rules.{rules}
 use Rattle.beside.proofs.adjoin.Goals as goal
 

@@ -1,12 +1,8 @@
 -- Row after row: adjoined_more is a turn of the loop, and adjoined_all its end.
 use mathlib.Core.Path.{◌≡◌}
-use Prim.Native.Nat.{ℕ, ◌-◌, ◌≤◌}
-use native.Mathlib.Omega.{arith}
+use Prim.Native.Nat.{◌-◌, ◌≤◌}
 use lib.ListN.{length}
-use Rattle.words.proofs.Value.{fits_fit}
-use Rattle.words.proofs.Rows.{row_end}
-use Rattle.beside.proofs.Rows.{Adjoined, adjoined_none, adjoined_more, adjoined_all}
-use borrow.Author.Rules.{rules}
+use Rattle.beside.proofs.Rows.{Adjoined}
 use Rattle.beside.proofs.adjoin.Given as goal
 
 abbrev pub invariant-loop-i : goal.invariant-loop-i

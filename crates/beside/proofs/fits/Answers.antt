@@ -3,7 +3,6 @@ use mathlib.Core.Path.{◌≡◌, sym, ◌∙◌}
 use native.Mathlib.Omega.{arith}
 use Rattle.refusals.specs.Outcome.{first}
 use Rattle.beside.proofs.Fitting.{numbers, right_numbers, wrong_numbers, wrong_room, right_shape}
-use borrow.Author.Rules.{rules}
 use Rattle.beside.proofs.fits.Goals as goal
 
 pub returns-then-number-ne0 : goal.returns-then-number-ne0

@@ -1,8 +1,7 @@
 -- After l turns the first l words are those of the sum: word l of a sum is the sum of the words l.
 use mathlib.Core.Path.{◌≡◌, sym, ap, ap₂, ◌∙◌}
-use Prim.Native.Nat.{ℕ, ◌-◌, ◌*◌, ◌^◌, ◌<◌, ◌≤◌}
+use Prim.Native.Nat.{ℕ, ◌*◌, ◌^◌, ◌<◌}
 use native.Mathlib.Omega.{arith}
-use lib.ListN.{length}
 use lib.Seq.{paste, paste-zero}
 use Rattle.gf2.specs.Rows.{◌⊕◌, part}
 use Rattle.words.specs.Words.{value, first_words}

@@ -1,15 +1,10 @@
 -- After l turns the first l words are those of the sum: word l of a sum is the sum of the words l.
-use mathlib.Core.Path.{◌≡◌, sym, ap, ap₂, ◌∙◌}
-use Prim.Native.Nat.{ℕ, ◌-◌, ◌*◌, ◌^◌, ◌<◌, ◌≤◌}
-use native.Mathlib.Omega.{arith}
+use mathlib.Core.Path.{◌≡◌}
+use Prim.Native.Nat.{◌-◌, ◌^◌, ◌≤◌}
 use lib.ListN.{length}
-use lib.Seq.{paste, paste-zero}
+use lib.Seq.{paste}
 use Rattle.gf2.specs.Rows.{◌⊕◌, part}
 use Rattle.words.specs.Words.{value, first_words}
-use Rattle.words.proofs.Parts.{paste_more}
-use Rattle.words.proofs.Value.{fits_fit, part_fits}
-use Rattle.words.proofs.First.{length_first, get_or_first, value_word, window_sum}
-use borrow.Author.Rules.{rules}
 use Rattle.beside.proofs.put.Given as goal
 
 abbrev pub invariant-loop-l : goal.invariant-loop-l

@@ -1,5 +1,4 @@
 -- The one in column c stands in word c / 64, at bit c % 64: unit_here; every other word is zero: unit_elsewhere.
-use borrow.Author.Rules.{rules}
 use Rattle.beside.proofs.Units.{unit_here, unit_elsewhere}
 use Rattle.beside.proofs.unit_word.Goals as goal
 

@@ -17,7 +17,7 @@ reduce_passed-requires c =
 pub returns-in-Refused : goal.returns-in-Refused
 returns-in-Refused c =
     let o = c.reduction-o in
-    promise_stopped o.result (search rules) c.o-1.given.0.0 (search rules) (search rules, refl, refl)
+    promise_stopped o.result (search rules) c.in-Refused.r (search rules) (search rules, refl, refl)
 
 pub returns-in-Done : goal.returns-in-Done
 returns-in-Done c =

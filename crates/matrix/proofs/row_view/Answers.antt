@@ -22,10 +22,16 @@ offset_bounds-m-a c =
     let ends = view_ends g.rows g.columns g.i g.m.now c.view-o.result (search rules) c.per_row-w.result (search rules) (search rules) in
     omega (arith, c.well_formed.0.0)
 
+pub slice_bounds-result-end-in-Done : goal.slice_bounds-result-end-in-Done
+slice_bounds-result-end-in-Done c =
+    let g = c.args in
+    let ends = view_ends g.rows g.columns g.i g.m.now c.view-o.result (search rules) c.per_row-w.result (search rules) (search rules) in
+    omega (arith, c.well_formed.0.0)
+
 pub returns-in-Refused : goal.returns-in-Refused
 returns-in-Refused c =
     let g = c.args in
-    let x = c.o-1.given.0.0 in
+    let x = c.in-Refused.r in
     let empty = view_refused g.rows g.columns g.i g.m.now c.view-o.result (search rules) {x = x} (search rules) in
     let front = refused_place g.rows g.columns g.i g.m.now c.view-o.result (search rules) {x = x} g.m.ref_ptr.1 (search rules) in
     (search rules, (search rules, search rules))
