@@ -3,13 +3,11 @@
 ghost use Rattle.std.specs.Prelude.{◌≡◌, true, ◌<◌, length};
 ghost use Rattle.stream.specs.Stream.{Within};
 
+use std::io::{ErrorKind, Read, Write};
+use std::thread;
+
 // how often in a row a stream may have nothing to give or to take before it has failed: some seconds
 const TRIES: usize = 4000000;
-
-// the errors of C that pass by themselves: interrupted, would wait
-const EINTR: i32 = 4;
-
-const EAGAIN: i32 = 11;
 
 // how many bytes were read or written; or that it failed
 #[derive(Drop)]
@@ -19,48 +17,61 @@ pub enum Moved {
 }
 
 // whether what failed is to be tried again, after so many tries in vain; others run meanwhile
-fn again(tries: usize) -> bool
+fn again(error: ErrorKind, tries: usize) -> bool
     ensures { result ≡ true → tries < 4000000 }
 {
-    let error = os::errno();
     if tries < TRIES {
-        if error == EINTR || error == EAGAIN {
-            libc::sched_yield();
+        // the errors that pass by themselves
+        if error == ErrorKind::Interrupted || error == ErrorKind::WouldBlock {
+            thread::yield_now();
             return true;
         }
     }
     false
 }
 
-// one read
-fn read_some(stream: i32, part: &mut [u8]) -> Moved
+// one read, tried again while its error passes by itself
+fn read_some(stream: &mut impl Read, part: &mut [u8]) -> Moved
     ensures { Within (length part.old) result }
 {
-    let n = libc::read(stream, part);
-    if n < 0 {
-        return Moved::Failed;
+    let mut tries = 0;
+    loop {
+        match stream.read(part) {
+            Ok(n) => return Moved::Bytes(n),
+            Err(e) => {
+                if !again(e.kind(), tries) {
+                    return Moved::Failed;
+                }
+                tries += 1;
+            }
+        }
     }
-    Moved::Bytes(io::count(n, part))
 }
 
-// one write
-fn write_some(stream: i32, part: &[u8]) -> Moved
+// one write, tried again in the same way
+fn write_some(stream: &mut impl Write, part: &[u8]) -> Moved
     ensures { Within (length part.now) result }
 {
-    let n = libc::write(stream, part);
-    if n < 0 {
-        return Moved::Failed;
+    let mut tries = 0;
+    loop {
+        match stream.write(part) {
+            Ok(n) => return Moved::Bytes(n),
+            Err(e) => {
+                if !again(e.kind(), tries) {
+                    return Moved::Failed;
+                }
+                tries += 1;
+            }
+        }
     }
-    Moved::Bytes(io::count(n, part))
 }
 
 // reads until the stream ends or the buffer is full
-pub fn read(stream: i32, buffer: &mut [u8]) -> Moved
+pub fn read(stream: &mut impl Read, buffer: &mut [u8]) -> Moved
     ensures { Within (length buffer.old) result }
 {
     let len = buffer.len();
     let mut at = 0;
-    let mut tries = 0;
     while at < len {
         let moved = read_some(stream, &mut buffer[at..]);
         match moved {
@@ -69,26 +80,19 @@ pub fn read(stream: i32, buffer: &mut [u8]) -> Moved
                     return Moved::Bytes(at);
                 }
                 at += n;
-                tries = 0;
             }
-            Moved::Failed => {
-                if !again(tries) {
-                    return Moved::Failed;
-                }
-                tries += 1;
-            }
+            Moved::Failed => return Moved::Failed,
         }
     }
     Moved::Bytes(at)
 }
 
 // writes all bytes; answers whether the stream took them
-pub fn write(stream: i32, bytes: &[u8]) -> bool
+pub fn write(stream: &mut impl Write, bytes: &[u8]) -> bool
     ensures { length bytes.now ≡ 0 → result ≡ true }
 {
     let len = bytes.len();
     let mut at = 0;
-    let mut tries = 0;
     while at < len {
         let moved = write_some(stream, &bytes[at..]);
         match moved {
@@ -97,14 +101,8 @@ pub fn write(stream: i32, bytes: &[u8]) -> bool
                     return false;
                 }
                 at += n;
-                tries = 0;
             }
-            Moved::Failed => {
-                if !again(tries) {
-                    return false;
-                }
-                tries += 1;
-            }
+            Moved::Failed => return false,
         }
     }
     true

@@ -1,0 +1,9 @@
+-- What went so far is part of the bytes.
+use Rattle.std.proofs.Common.{◌≡◌, length, ◌-◌, ◌≤◌}
+use Rattle.stream.proofs.write.Given as goal
+
+abbrev pub invariant-loop-at : goal.invariant-loop-at
+invariant-loop-at g l = record { within : l.at ≤ l.len; whole : l.len ≡ length l.bytes }
+
+abbrev pub decreases-loop-at : goal.decreases-loop-at
+decreases-loop-at g l = l.len - l.at
