@@ -1,7 +1,8 @@
 #![tactic(auto)]
 // Streams, read to their end and written whole. What was interrupted, or would wait, is tried again; whatever else fails is told.
-ghost use Rattle.std.specs.Prelude.{◌≡◌, true, ◌<◌, length};
-ghost use Rattle.stream.specs.Stream.{Within};
+ghost use Rattle.std.specs.Prelude.{◌≡◌, true, false, ◌<◌, length};
+ghost use Rattle.std.specs.Io.KnownBytes.{Appends};
+ghost use Rattle.stream.specs.Stream.{Within, ReadSome, ReadFull, WrittenSome, AppendsFront};
 
 use std::io::{ErrorKind, Read, Write};
 use std::thread;
@@ -31,8 +32,9 @@ fn again(error: ErrorKind, tries: usize) -> bool
 }
 
 // one read, tried again while its error passes by itself
-fn read_some(stream: &mut impl Read, part: &mut [u8]) -> Moved
-    ensures { Within (length part.old) result }
+fn read_some<R: Read>(stream: &mut R, part: &mut [u8]) -> Moved
+    ensures within { Within (length part.old) result }
+    ensures bytes { ReadSome (R.remaining stream.old) (R.remaining stream.new) result part.new }
 {
     let mut tries = 0;
     loop {
@@ -49,8 +51,9 @@ fn read_some(stream: &mut impl Read, part: &mut [u8]) -> Moved
 }
 
 // one write, tried again in the same way
-fn write_some(stream: &mut impl Write, part: &[u8]) -> Moved
-    ensures { Within (length part.now) result }
+fn write_some<W: Write>(stream: &mut W, part: &[u8]) -> Moved
+    ensures within { Within (length part.now) result }
+    ensures bytes { WrittenSome (W.contents stream.old) (W.contents stream.new) result part.now }
 {
     let mut tries = 0;
     loop {
@@ -67,8 +70,9 @@ fn write_some(stream: &mut impl Write, part: &[u8]) -> Moved
 }
 
 // reads until the stream ends or the buffer is full
-pub fn read(stream: &mut impl Read, buffer: &mut [u8]) -> Moved
-    ensures { Within (length buffer.old) result }
+pub fn read<R: Read>(stream: &mut R, buffer: &mut [u8]) -> Moved
+    ensures within { Within (length buffer.old) result }
+    ensures bytes { ReadFull (R.remaining stream.old) (R.remaining stream.new) result buffer.new }
 {
     let len = buffer.len();
     let mut at = 0;
@@ -88,8 +92,10 @@ pub fn read(stream: &mut impl Read, buffer: &mut [u8]) -> Moved
 }
 
 // writes all bytes; answers whether the stream took them
-pub fn write(stream: &mut impl Write, bytes: &[u8]) -> bool
-    ensures { length bytes.now ≡ 0 → result ≡ true }
+pub fn write<W: Write>(stream: &mut W, bytes: &[u8]) -> bool
+    ensures empty { length bytes.now ≡ 0 → result ≡ true }
+    ensures whole { result ≡ true → Appends (W.contents stream.old) (W.contents stream.new) bytes.now }
+    ensures begun { result ≡ false → AppendsFront (W.contents stream.old) (W.contents stream.new) bytes.now }
 {
     let len = bytes.len();
     let mut at = 0;
