@@ -7,7 +7,7 @@ ghost use Rattle.std.specs.Prelude.{◌≡◌, true};
 ghost use Rattle.std.specs.Io.KnownBytes.{Keeps, Appends};
 ghost use Rattle.reduce.specs.Report.{report};
 ghost use Rattle.reduce.specs.Streams.{Reported};
-ghost use Rattle.reduce.specs.declared.main.Ended.TheVariants.{Written, NotRead, NotWritten};
+ghost use Rattle.reduce.specs.declared.Ended.TheVariants.{Written, NotRead, NotWritten};
 
 use std::io::{Read, Write};
 use stream::Moved;
