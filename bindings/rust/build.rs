@@ -1,7 +1,7 @@
 // Links libchhayublo.a.
 // - From the folder CHHAYUBLO_LIB_DIR, if that is set. A relative one is looked for from where cargo was called, as the variable PWD
 //   tells it, and then from this package's folder, where build scripts run: the first that has the archive is taken.
-// - Else from the repository's target/staticlib. Where `rt` is on the PATH it first brings the archive up to date: again whenever the
+// - Else from the repository's crates/chhayublo/out. Where `rt` is on the PATH it first brings the archive up to date: again whenever the
 //   library's sources change, which takes minutes at first, and about one afterwards. Elsewhere the archive is taken as it is.
 use std::env;
 use std::io::ErrorKind;
@@ -21,23 +21,31 @@ fn lent_folder(lent: PathBuf, package: &Path) -> PathBuf {
 }
 
 fn own_folder(root: &Path) -> PathBuf {
-    let folder = root.join("target/staticlib");
-    match Command::new("rt").args(["staticlib", "chhayublo"]).current_dir(root).status() {
-        // not the archive, which is written anew each time
-        Ok(status) if status.success() => {
-            println!("cargo:rerun-if-changed={}", root.join("crates").display());
-            println!("cargo:rerun-if-changed={}", root.join("crates.txt").display());
-        }
+    let library = root.join("crates/chhayublo");
+    let folder = library.join("out");
+    match Command::new("rt").arg("lib").current_dir(&library).status() {
+        Ok(status) if status.success() => watch_sources(root),
         Err(error) if error.kind() == ErrorKind::NotFound => watch(&folder),
-        other => panic!("`rt staticlib chhayublo` in {} failed: {other:?}; or set CHHAYUBLO_LIB_DIR", root.display()),
+        other => panic!("`rt lib` in {} failed: {other:?}; or set CHHAYUBLO_LIB_DIR", library.display()),
     }
     let archive = folder.join(ARCHIVE);
-    assert!(archive.exists(), "{} is missing: call `rt staticlib chhayublo`, or set CHHAYUBLO_LIB_DIR", archive.display());
+    assert!(archive.exists(), "{} is missing: call `rt lib` in {}, or set CHHAYUBLO_LIB_DIR", archive.display(), library.display());
     folder
 }
 
 fn watch(folder: &Path) {
     println!("cargo:rerun-if-changed={}", folder.join(ARCHIVE).display());
+}
+
+/// not what rt makes in a crate's `out`, which is written anew each time, and the archive with it
+fn watch_sources(root: &Path) {
+    println!("cargo:rerun-if-changed={}", root.join("crates.txt").display());
+    for entry in root.join("crates").read_dir().expect("the crates are there") {
+        let place = entry.expect("it can be read").path();
+        for part in ["src", "specs", "proofs"].map(|part| place.join(part)).iter().filter(|part| part.exists()) {
+            println!("cargo:rerun-if-changed={}", part.display());
+        }
+    }
 }
 
 fn main() {
