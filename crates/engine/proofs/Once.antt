@@ -6,7 +6,6 @@ use Prim.Native.Nat.{ℕ}
 use native.Mathlib.Omega.{arith}
 use lib.ListN.{length}
 use Rattle.gf2.specs.Reduced.{rank, pivot_record}
-use Rattle.gf2.specs.Additions.{additions}
 use Rattle.gf2.proofs.Reduced.{one_reduced_form}
 use Rattle.words.specs.Words.{Slice, words_of}
 use Rattle.words.proofs.Slices.{same_words}

@@ -1,34 +1,21 @@
 -- Each turn does one window; after the last all columns are done.
 use mathlib.Core.Path.{◌≡◌, refl, sym, ◌∙◌}
-use Prim.Native.Nat.{ℕ, ◌-◌, ◌*◌, ◌^◌, ◌≤◌, ◌<◌}
+use Prim.Native.Nat.{ℕ, ◌*◌, ◌≤◌, ◌<◌}
 use native.Mathlib.Omega.{arith}
-use borrow.Author.Rules.{rules}
-use lib.ListN.{length, drop, length-replicate}
-use Rattle.gf2.specs.Rows.{row}
-use Rattle.gf2.specs.Additions.{windows}
+use lib.ListN.{length-replicate}
+use Rattle.gf2.specs.Additions.{windows, table_additions}
 use Rattle.gf2.proofs.Additions.{window_starts}
-use Rattle.words.specs.Words.{rows_of}
 use Rattle.words.proofs.Rows.{length_rows}
 use Rattle.engine.proofs.Fitting.{table_fits, rows_fit}
-use Rattle.engine.proofs.Windows.{Passed, passed_start, passed_next, finished, table_room, steps_small, table_small, table_rest}
+use Rattle.engine.proofs.Windows.{passed_start, passed_next, finished, table_room, steps_small, table_small, table_rest}
 use Rattle.engine.proofs.all.Goals as goal
 
-clean : (s : tie.Start invariant-loop decreases-loop) → (i : ℕ) → row (rows_of s.args.w s.args.n s.args.m.now) i < 2 ^ s.args.columns
-clean s i = rw s.requires.0 (s.requires.1.shape.clean i)
-
 -- a window starts left of the last column
-starts : (c : tie.In-loop invariant-loop decreases-loop) → let s = c.before.before.before.before.before.before.before in c.before.loop.j * s.args.k < s.args.columns
-starts c =
-    let s = c.before.before.before.before.before.before.before in
-    let l : c.before.loop.j < windows s.args.k s.args.columns = omega (arith, c.loop-test.true, c.before.before.window-count.ensures) in
-    window_starts s.args.k s.args.columns c.before.loop.j s.requires.1.table.window.least l
+starts : {k columns j end : ℕ} → 0 < k → end ≡ windows k columns → j < end → j * k < columns
+starts {k} {columns} {j} least e l = window_starts k columns j least (omega arith)
 
-few_additions : (c : tie.After-window invariant-loop decreases-loop) → c.window.result.additions ≤ 255
-few_additions c =
-    let d = c.before.before.before.before.before.before.before in
-    let p = d.before.before.before.before.before.before.before.before.requires in
-    let h = c.window.ensures in
-    omega (arith, h.3, table_small c.window.result.rank (omega (arith, h.0.few, d.width.ensures.1, p.1.table.window.most)))
+few_additions : {additions rank kw k : ℕ} → additions ≡ table_additions rank → rank ≤ kw → kw ≤ k → k ≤ 8 → additions ≤ 255
+few_additions {additions} {rank} e few less most = omega (arith, e, table_small rank (omega arith))
 
 pub window_count-end-requires : goal.window_count-end-requires
 window_count-end-requires c = let f = c.requires.1 in (f.table.window.least, f.table.window.most, f.shape.sized.wide)
@@ -40,10 +27,10 @@ loop-j-init c =
     (passed_start p.1.shape.listed p.2, omega arith, omega arith, refl, refl, refl, refl, bytes, bytes, refl)
 
 pub overflow_mul-c : goal.overflow_mul-c
-overflow_mul-c c = omega (arith, starts c, c.requires.1.shape.sized.wide)
+overflow_mul-c c = omega (arith, starts c.requires.1.table.window.least c.window_count-end.ensures c.loop-j-test.true, c.requires.1.shape.sized.wide)
 
 pub width-kw-requires : goal.width-kw-requires
-width-kw-requires c = (c.requires.1.table.window.least, starts c)
+width-kw-requires c = (c.requires.1.table.window.least, starts c.requires.1.table.window.least c.window_count-end.ensures c.loop-j-test.true)
 
 pub slice_bounds-window-end : goal.slice_bounds-window-end
 slice_bounds-window-end c = sym c.loop-j.invariant.7
@@ -74,8 +61,8 @@ window-p-requires c =
 
 pub overflow_add-additions : goal.overflow_add-additions
 overflow_add-additions c =
-    let few = steps_small c.loop-j.j c.args.k c.args.columns c.requires.1.table.window.least (starts i) in
-    omega (arith, c.loop-j.invariant.1, few_additions f, few, c.requires.1.shape.sized.wide)
+    let few = steps_small c.loop-j.j c.args.k c.args.columns c.requires.1.table.window.least (starts c.requires.1.table.window.least c.window_count-end.ensures c.loop-j-test.true) in
+    omega (arith, c.loop-j.invariant.1, (few_additions c.window-p.ensures.3 c.window-p.ensures.0.few c.width-kw.ensures.1 c.requires.1.table.window.most), few, c.requires.1.shape.sized.wide)
 
 pub overflow_add-rank : goal.overflow_add-rank
 overflow_add-rank c =
@@ -91,17 +78,17 @@ loop-j-preserved c =
     let f = c.window-p in
     let h = c.width-kw.ensures in
     let v = l.invariant in
-    let rest = table_rest c.width-kw.result g.k g.w f.new.1.1.1.1.1.1.1.0 l.t h.1 f.ensures.2 in (
-      passed_next h.1 h.3 (clean s) v.0 f.ensures.0 f.ensures.3,
-      omega (arith, v.1, few_additions a),
+    let rest = table_rest c.width-kw.result g.k g.w f.new.t l.t h.1 f.ensures.2 in (
+      passed_next h.1 h.3 (λ i. rw c.requires.0 (c.requires.1.shape.clean i)) v.0 f.ensures.0 f.ensures.3,
+      omega (arith, v.1, (few_additions c.window-p.ensures.3 c.window-p.ensures.0.few c.width-kw.ensures.1 c.requires.1.table.window.most)),
       omega (arith, c.loop-j-test.true),
       f.ensures.1 ∙ v.3,
       rest ∙ v.4,
-      f.auto.1.0 ∙ v.5,
-      f.auto.1.1.1.1.1.1.1.0 ∙ v.6,
-      f.auto.1.1.1.1.1.1.1.1.0 ∙ v.7,
-      f.auto.1.1.1.1.1.1.1.1.1.0 ∙ v.8,
-      f.auto.1.1.1.1.1.1.1.1.1.1.0 ∙ v.9,
+      f.auto.m ∙ v.5,
+      f.auto.t ∙ v.6,
+      f.auto.h ∙ v.7,
+      f.auto.o ∙ v.8,
+      f.auto.cols ∙ v.9,
     )
 
 pub shape_of-m : goal.shape_of-m
@@ -119,4 +106,4 @@ returns c =
     let g = c.args in
     let e : l.j ≡ windows g.k g.columns = omega (arith, c.loop-j-test.false, l.invariant.2, c.window_count-end.ensures) in
     let size = length_rows g.w g.n in
-    (refl, finished c.requires.1.table.window.least (size l.m) (size g.m.now) (clean s) e l.invariant.0, l.invariant.3, l.invariant.4)
+    (refl, finished c.requires.1.table.window.least (size l.m) (size g.m.now) (λ i. rw c.requires.0 (c.requires.1.shape.clean i)) e l.invariant.0, l.invariant.3, l.invariant.4)

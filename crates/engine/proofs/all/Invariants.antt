@@ -1,16 +1,9 @@
 -- Each turn does one window; after the last all columns are done.
-use mathlib.Core.Path.{◌≡◌, refl, sym, ◌∙◌}
-use Prim.Native.Nat.{ℕ, ◌-◌, ◌*◌, ◌^◌, ◌≤◌, ◌<◌}
-use native.Mathlib.Omega.{arith}
-use borrow.Author.Rules.{rules}
-use lib.ListN.{length, drop, length-replicate}
-use Rattle.gf2.specs.Rows.{row}
-use Rattle.gf2.specs.Additions.{windows}
-use Rattle.gf2.proofs.Additions.{window_starts}
+use mathlib.Core.Path.{◌≡◌}
+use Prim.Native.Nat.{◌-◌, ◌*◌, ◌^◌, ◌≤◌}
+use lib.ListN.{length, drop}
 use Rattle.words.specs.Words.{rows_of}
-use Rattle.words.proofs.Rows.{length_rows}
-use Rattle.engine.proofs.Fitting.{table_fits, rows_fit}
-use Rattle.engine.proofs.Windows.{Passed, passed_start, passed_next, finished, table_room, steps_small, table_small, table_rest}
+use Rattle.engine.proofs.Windows.{Passed}
 use Rattle.engine.proofs.all.Given as goal
 
 abbrev pub invariant-loop-j : goal.invariant-loop-j

@@ -1,7 +1,6 @@
 -- Each turn makes one place more 65,535.
 use mathlib.Core.Path.{◌≡◌, refl}
-use Prim.Native.Nat.{◌-◌, ◌≤◌}
-use Rattle.engine.proofs.ByteLaws.{Made, made_start, made_more}
+use Rattle.engine.proofs.ByteLaws.{made_start, made_more}
 use borrow.Author.Rules.{rules}
 use native.Mathlib.Omega.{arith}
 use Rattle.engine.proofs.forget.Goals as goal

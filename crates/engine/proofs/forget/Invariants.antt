@@ -1,9 +1,7 @@
 -- Each turn makes one place more 65,535.
-use mathlib.Core.Path.{◌≡◌, refl}
+use mathlib.Core.Path.{◌≡◌}
 use Prim.Native.Nat.{◌-◌, ◌≤◌}
-use Rattle.engine.proofs.ByteLaws.{Made, made_start, made_more}
-use borrow.Author.Rules.{rules}
-use native.Mathlib.Omega.{arith}
+use Rattle.engine.proofs.ByteLaws.{Made}
 use Rattle.engine.proofs.forget.Given as goal
 
 abbrev pub invariant-loop-i : goal.invariant-loop-i

@@ -1,7 +1,6 @@
 -- The search foresees the matrix that clearing gives; the table clears each row by its number.
 use mathlib.Core.Path.{◌≡◌, refl, ◌∙◌}
 use native.Mathlib.Omega.{arith}
-use borrow.Author.Rules.{rules}
 use lib.ListN.{length}
 use Rattle.words.proofs.Rows.{length_rows}
 use Rattle.engine.specs.Stage.{Sizes}

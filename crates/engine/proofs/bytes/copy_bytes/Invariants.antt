@@ -1,11 +1,8 @@
 -- Each turn copies one byte more; those before `from` stay.
-use mathlib.Core.Path.{◌≡◌, refl}
-use mathlib.Core.Logic.{inl}
+use mathlib.Core.Path.{◌≡◌}
 use Prim.Native.Nat.{◌-◌, ◌≤◌}
 use lib.ListN.{get_or}
-use Rattle.engine.proofs.ByteLaws.{Made, made_start, made_more}
-use borrow.Author.Rules.{rules}
-use native.Mathlib.Omega.{arith}
+use Rattle.engine.proofs.ByteLaws.{Made}
 use Rattle.engine.proofs.bytes.copy_bytes.Given as goal
 
 abbrev pub invariant-loop-i : goal.invariant-loop-i

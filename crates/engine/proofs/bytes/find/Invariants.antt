@@ -3,9 +3,6 @@ use mathlib.Core.Path.{◌≡◌}
 use Prim.Native.Nat.{ℕ, ◌-◌, ◌<◌, ◌≤◌}
 use lib.ListN.{get_or}
 use Rattle.gf2.specs.Rows.{bit}
-use Rattle.engine.proofs.ByteLaws.{found_none}
-use borrow.Author.Rules.{rules}
-use native.Mathlib.Omega.{arith}
 use Rattle.engine.proofs.bytes.find.Given as goal
 
 abbrev pub invariant-loop-i : goal.invariant-loop-i

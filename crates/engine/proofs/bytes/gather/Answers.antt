@@ -1,6 +1,6 @@
 -- Each turn puts the bit of one pivot more above the bits that y has.
 use mathlib.Core.Path.{◌≡◌, subst}
-use Prim.Native.Nat.{ℕ, ◌+◌, ◌-◌, ◌≤◌}
+use Prim.Native.Nat.{ℕ, ◌+◌, ◌-◌}
 use lib.ListN.{get_or}
 use Rattle.engine.specs.Stage.{Gathered}
 use Rattle.engine.proofs.ByteLaws.{gather_start, gather_more}

@@ -1,11 +1,6 @@
 -- Each turn puts the bit of one pivot more above the bits that y has.
-use mathlib.Core.Path.{◌≡◌, subst}
-use Prim.Native.Nat.{ℕ, ◌+◌, ◌-◌, ◌≤◌}
-use lib.ListN.{get_or}
+use Prim.Native.Nat.{◌-◌, ◌≤◌}
 use Rattle.engine.specs.Stage.{Gathered}
-use Rattle.engine.proofs.ByteLaws.{gather_start, gather_more}
-use borrow.Author.Rules.{rules}
-use native.Mathlib.Omega.{arith}
 use Rattle.engine.proofs.bytes.gather.Given as goal
 
 abbrev pub invariant-loop-b : goal.invariant-loop-b

@@ -1,10 +1,10 @@
 -- Each turn gathers one byte more, which is still as it was.
 use mathlib.Core.Path.{◌≡◌, subst}
 use mathlib.Core.Logic.{inr}
-use Prim.Native.Nat.{ℕ, ◌-◌, ◌≤◌}
+use Prim.Native.Nat.{ℕ}
 use lib.ListN.{get_or}
 use Rattle.engine.specs.Stage.{Gathered}
-use Rattle.engine.proofs.ByteLaws.{Made, made_start, made_more}
+use Rattle.engine.proofs.ByteLaws.{made_start, made_more}
 use borrow.Author.Rules.{rules}
 use native.Mathlib.Omega.{arith}
 use Rattle.engine.proofs.bytes.gather_all.Goals as goal

@@ -1,13 +1,12 @@
 -- Each turn clears one byte more: the mask 2 ^ x tells whether it has a one in column x.
 use mathlib.Core.Path.{◌≡◌, ◌∙◌}
-use mathlib.Core.Logic.{⊎_elim, inr}
-use Prim.Native.Nat.{◌-◌, ◌*◌, ◌%◌, ◌^◌, ◌<◌, ◌≤◌}
+use mathlib.Core.Logic.{inr}
+use Prim.Native.Nat.{◌*◌, ◌%◌, ◌^◌, ◌<◌}
 use lib.ListN.{length, get_or}
-use Rattle.engine.specs.Stage.{Union}
-use Rattle.engine.proofs.ByteLaws.{ClearedAt, Made, made_start, made_more, union_start, union_more, kept, added, one_bit}
-use borrow.Author.Rules.{rules}
+use Rattle.engine.proofs.ByteLaws.{ClearedAt, made_start, made_more, union_start, union_more, kept, added, one_bit}
 use native.Mathlib.Omega.{arith}
 use Rattle.engine.proofs.bytes.sweep.Goals as goal
+use Rattle.engine.proofs.bytes.sweep.Goals.{then-o-i-eq0, else-o-i-eq0}
 
 pub overflow_cast-one : goal.overflow_cast-one
 overflow_cast-one c = omega (arith, c.requires.0)
@@ -46,7 +45,10 @@ loop-i-preserved c =
     let h : l.i < length g.o.now = omega (arith, c.loop-i-test.true, c.requires.1) in
     let old : is ≡ was = l.invariant.0.rest l.i (inr (omega arith)) in
     let here : ClearedAt g.x g.b g.o.now l.i new =
-    ⊎_elim (λ a. a.2 ∙ kept g.x g.b is was one l.invariant.3 old a.0.taken) (λ a. a.2 ∙ added g.x g.b is was one l.invariant.3 old a.0.left) c.if-o-i-eq0.branch in (
+    elim c.if-o-i-eq0.branch [
+      | then-o-i-eq0 a ↦ a.v-is ∙ kept g.x g.b is was one l.invariant.3 old a.if-o-i-eq0.true
+      | else-o-i-eq0 a ↦ a.v-is ∙ added g.x g.b is was one l.invariant.3 old a.if-o-i-eq0.false
+    ] in (
       made_more (ClearedAt g.x g.b g.o.now) 0 l.i g.o.now l.o new (omega arith) h here l.invariant.0,
       union_more l.i 0 l.o l.u new (omega (arith, h, l.invariant.0.size)) l.invariant.1,
       omega (arith, c.loop-i-test.true),

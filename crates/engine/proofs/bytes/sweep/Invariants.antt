@@ -1,12 +1,8 @@
 -- Each turn clears one byte more: the mask 2 ^ x tells whether it has a one in column x.
-use mathlib.Core.Path.{◌≡◌, ◌∙◌}
-use mathlib.Core.Logic.{⊎_elim, inr}
-use Prim.Native.Nat.{◌-◌, ◌*◌, ◌%◌, ◌^◌, ◌<◌, ◌≤◌}
-use lib.ListN.{length, get_or}
+use mathlib.Core.Path.{◌≡◌}
+use Prim.Native.Nat.{◌-◌, ◌^◌, ◌≤◌}
 use Rattle.engine.specs.Stage.{Union}
-use Rattle.engine.proofs.ByteLaws.{ClearedAt, Made, made_start, made_more, union_start, union_more, kept, added, one_bit}
-use borrow.Author.Rules.{rules}
-use native.Mathlib.Omega.{arith}
+use Rattle.engine.proofs.ByteLaws.{ClearedAt, Made}
 use Rattle.engine.proofs.bytes.sweep.Given as goal
 
 abbrev pub invariant-loop-i : goal.invariant-loop-i

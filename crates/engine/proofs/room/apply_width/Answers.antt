@@ -40,8 +40,8 @@ clear-requires c =
     let p = c.requires.0 in
     let v = c.args.v in
     let k = c.make-additions in
-    let m' : List ℕ = k.new.1.0 in
-    let long : s.n * s.w + 2 ^ s.r * v ≤ length m' = omega (arith, k.auto.1.0, room_holds s.w v s.n s.base s.r c.args.m.now c.args.o.now p) in
+    let m' : List ℕ = k.new.m in
+    let long : s.n * s.w + 2 ^ s.r * v ≤ length m' = omega (arith, k.auto.m, room_holds s.w v s.n s.base s.r c.args.m.now c.args.o.now p) in
     let z : Sizes s.w s.n (length m') = record { fits = omega (arith, long); narrow = p.sizes.narrow; few = omega (arith, p.sizes.few) } in
     (z, p.inside, p.bytes, (λ i h. omega (arith, row_ends (get_or c.args.o.now i 0) (2 ^ s.r) v (p.small i h), long)))
 
@@ -55,7 +55,7 @@ returns c =
     let m : List ℕ = c.args.m.now in
     let o : List ℕ = c.args.o.now in
     record {
-      rows = room_cleared s.w v s.n s.base s.r m o p k.new.1.0 d.new.0 k.ensures.2 d.ensures (fits_fit m c.type_inv.m) k.ensures.1;
-      rest = room_past s.w v s.n s.base s.r m o p k.new.1.0 d.new.0 k.ensures.2 d.ensures k.ensures.3;
+      rows = room_cleared s.w v s.n s.base s.r m o p k.new.m d.new.m k.ensures.2 d.ensures (fits_fit m (search rules)) k.ensures.1;
+      rest = room_past s.w v s.n s.base s.r m o p k.new.m d.new.m k.ensures.2 d.ensures k.ensures.3;
       count = k.ensures.0;
     }

@@ -4,16 +4,16 @@ use Rattle.engine.specs.Stage.{table_row}
 use Rattle.words.proofs.Parts.{length_part}
 use Rattle.words.proofs.Rows.{row_ends}
 use Rattle.words.proofs.Value.{fits_fit, part_fits}
-use Rattle.words.specs.Words.{Fit, value}
+use Rattle.words.specs.Words.{value}
 use Rattle.gf2.specs.Rows.{part}
-use Prim.Native.Nat.{ℕ, ◌+◌, ◌-◌, ◌*◌, ◌≤◌}
+use Prim.Native.Nat.{ℕ, ◌+◌, ◌-◌, ◌*◌}
 use lib.ListN.{length, get_or, drop}
 use mathlib.Core.List.{List}
-use mathlib.Core.Logic.{⊎_elim}
 use mathlib.Core.Path.{◌≡◌, ap, sym, ◌∙◌, subst}
 use borrow.Author.Rules.{rules}
 use native.Mathlib.Omega.{arith}
 use Rattle.engine.proofs.room.clear.Goals as goal
+use Rattle.engine.proofs.room.clear.Goals.{then-j-ne0, else-j-ne0}
 
 pub loop-i-init : goal.loop-i-init
 loop-i-init c =
@@ -72,13 +72,15 @@ loop-i-preserved c =
     let T : ℕ → ℕ = table_row a.v (drop (a.n * a.w) a.m.now) in
     let y : List ℕ = part (a.n * a.w + j * a.v) a.v l.m in
     let ly : length y ≡ a.v = length_part (a.n * a.w + j * a.v) a.v l.m (omega (arith, c.requires.3 l.i h, l.invariant.0.long)) in (
-      ⊎_elim
-          (λ x. clears_one a.w z a.n a.o.now T l.i a.v a.m.now l.m y c.if-j-ne0.m h (omega (arith, c.requires.1)) c.requires.0.fits ly
-          (part_fits l.m (a.n * a.w + j * a.v) a.v l.invariant.0.fit) x.0.taken (ap value (table_words (a.n * a.w) (j * a.v) a.v l.m a.m.now l.invariant.0.past)) (x.5 ∙ x.2.ensures)
-          (subst Fit (sym x.5) (fits_fit x.2.last.0 x.4.given)) l.invariant.0)
-          (λ x. subst (Clears a.w z a.n (l.i + 1) a.o.now T a.m.now) (sym x.1)
-          (clears_none a.w z a.n a.o.now T l.i a.m.now l.m h x.0.left l.invariant.0))
-          c.if-j-ne0.branch,
+      elim c.if-j-ne0.branch [
+        | then-j-ne0 x ↦
+            clears_one a.w z a.n a.o.now T l.i a.v a.m.now l.m y c.if-j-ne0.m h (omega (arith, c.requires.1)) c.requires.0.fits ly
+            (part_fits l.m (a.n * a.w + j * a.v) a.v l.invariant.0.fit) x.if-j-ne0.true (ap value (table_words (a.n * a.w) (j * a.v) a.v l.m a.m.now l.invariant.0.past)) (x.m-is ∙ x.clear_by.ensures)
+            (fits_fit c.if-j-ne0.m (search rules)) l.invariant.0
+        | else-j-ne0 x ↦
+            subst (Clears a.w z a.n (l.i + 1) a.o.now T a.m.now) (sym x.m-is)
+            (clears_none a.w z a.n a.o.now T l.i a.m.now l.m h x.if-j-ne0.false l.invariant.0)
+      ],
       omega (arith, h),
     )
 

@@ -7,9 +7,9 @@ use Rattle.method.specs.Gray.{gray}
 use Rattle.words.proofs.Parts.{length_part, drop_past}
 use Rattle.words.proofs.Rows.{row_ends}
 use Rattle.words.proofs.Value.{fits_fit, part_fits}
-use Rattle.words.specs.Words.{Fit, value, rows_of}
+use Rattle.words.specs.Words.{value, rows_of}
 use Rattle.gf2.specs.Rows.{row, part}
-use Prim.Native.Nat.{ℕ, ◌+◌, ◌-◌, ◌*◌, ◌^◌, ◌<◌, ◌≤◌}
+use Prim.Native.Nat.{ℕ, ◌+◌, ◌*◌, ◌^◌, ◌<◌, ◌≤◌}
 use lib.Count.{count_trailing_zeros}
 use lib.ListN.{length, take, drop, length-drop}
 use lib.Pow.{pow_pos}
@@ -67,8 +67,8 @@ loop-l-preserved c =
     let P : List ℕ = spaced a.a a.w a.v a.r a.m.now in
     let N : ℕ = 2 ^ a.r in
     let hl : l.l < 2 ^ a.r = omega (arith, c.loop-l-test.true, c.pow2-end.ensures) in
-    let m' : List ℕ = k.new.1.0 in
-    let x' : List ℕ = k.new.1.1.0 in
+    let m' : List ℕ = k.new.m in
+    let x' : List ℕ = k.new.x in
     let z : ℕ = count_trailing_zeros 32 l.l in
     let g : ℕ = gray l.l in
     let hz : z < a.r = joins_below a.r l.l c.requires.0 hl (omega (arith, l.invariant.4)) in
@@ -89,11 +89,11 @@ loop-l-preserved c =
       codes_turn a.v N l.l P (drop a.b l.m) (drop a.b m') x' hg hd c.requires.1 (ap (drop a.b) k.ensures.2 ∙ paste_behind l.m a.b (g * a.v) (part 0 a.v x') a.v hb) loc l.invariant.0,
       loc,
       ap (drop (a.b + N * a.v)) k.ensures.2 ∙ drop_past l.m (a.b + g * a.v) (part 0 a.v x') a.v (a.b + N * a.v) (omega (arith, row_end)) (omega (arith, row_end, long)) (omega (arith, lx)) ∙ l.invariant.2,
-      k.auto.1.0 ∙ l.invariant.3,
+      k.auto.m ∙ l.invariant.3,
       omega (arith, l.invariant.4),
       omega (arith, c.loop-l-test.true),
       ap (take a.b) k.ensures.2 ∙ paste_front l.m a.b (a.b + g * a.v) (part 0 a.v x') a.v (omega arith) (omega (arith, row_end, long)) ∙ l.invariant.6,
-      fits_fit m' c.type_inv.x,
+      fits_fit m' c.type_inv.m,
     )
 
 pub shape_of-m : goal.shape_of-m

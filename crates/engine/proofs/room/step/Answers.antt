@@ -4,7 +4,6 @@ use Rattle.gf2.specs.Rows.{part}
 use Rattle.words.specs.Words.{xors}
 use lib.Seq.{paste}
 use mathlib.Core.Path.{ap, ◌∙◌}
-use borrow.Author.Rules.{rules}
 use native.Mathlib.Omega.{arith}
 use Rattle.engine.proofs.room.step.Goals as goal
 
@@ -30,14 +29,14 @@ overflow_add-b c =
 
 pub copy_words-requires : goal.copy_words-requires
 copy_words-requires c =
-    (omega (arith, ap (λ (q : ℕ). q * c.args.v) c.code.ensures, c.requires.4), omega (arith, c.requires.2, c.copy_words-arg-3-1.given.0))
+    (omega (arith, ap (λ (q : ℕ). q * c.args.v) c.code.ensures, c.requires.4), omega (arith, c.requires.2, c.add_words.auto.d, c.requires.1))
 
 pub returns : goal.returns
 returns c =
     let a = c.args in
     let j = c.joins in
     let d = c.add_words in (
-      c.copy_words-arg-3-1.given.0,
+      c.add_words.auto.d ∙ c.requires.1,
       d.ensures ∙ ap (λ (z : ℕ). paste a.x.now 0 (xors (part 0 a.v a.x.now) (part (a.a + z * a.w) a.v a.m.now)) a.v) j.ensures,
-      c.copy_words.ensures ∙ ap (λ (g : ℕ). paste a.m.now (a.b + g * a.v) (part 0 a.v d.new.0) a.v) c.code.ensures,
+      c.copy_words.ensures ∙ ap (λ (g : ℕ). paste a.m.now (a.b + g * a.v) (part 0 a.v d.new.d) a.v) c.code.ensures,
     )

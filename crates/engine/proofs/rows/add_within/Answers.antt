@@ -1,14 +1,13 @@
 -- After l turns the first l words of row i are the sums, and those of row j, which is another, are as they were: within_turn.
 use mathlib.Core.Path.{◌≡◌, refl, ap, ◌∙◌}
-use Prim.Native.Nat.{ℕ, ◌+◌, ◌-◌, ◌*◌, ◌≤◌}
-use lib.ListN.{length-set, length}
+use Prim.Native.Nat.{ℕ, ◌+◌, ◌*◌}
+use lib.ListN.{length-set}
 use lib.Seq.{paste, paste-zero}
 use Rattle.gf2.specs.Rows.{part}
 use Rattle.words.specs.Words.{xors}
 use Rattle.words.proofs.Parts.{within_turn}
 use Rattle.words.proofs.Rows.{apart}
 use native.Mathlib.Omega.{arith}
-use borrow.Author.Rules.{rules}
 use Rattle.engine.proofs.rows.add_within.Goals as goal
 
 pub loop-l-init : goal.loop-l-init

@@ -2,7 +2,6 @@
 use mathlib.Core.Path.{sym}
 use Prim.Native.Nat.{◌*◌}
 use Rattle.words.proofs.Value.{fits_fit, part_bit}
-use borrow.Author.Rules.{rules}
 use Rattle.engine.proofs.rows.bit_at.Goals as goal
 
 pub returns : goal.returns

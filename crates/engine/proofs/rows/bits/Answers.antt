@@ -6,7 +6,6 @@ use lib.Bits.{bit_and, bit_or}
 use Rattle.words.proofs.Value.{fits_fit}
 use Rattle.words.proofs.Window.{window_one, window_two}
 use native.Mathlib.Omega.{arith}
-use borrow.Author.Rules.{rules}
 use Rattle.engine.proofs.rows.bits.Goals as goal
 
 pub returns-then-s-k-le64 : goal.returns-then-s-k-le64

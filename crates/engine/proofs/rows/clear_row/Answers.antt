@@ -10,7 +10,6 @@ use Rattle.words.proofs.Value.{fits_fit}
 use Rattle.words.proofs.Rows.{row_ends, get_or_rows, rows_added, rest_paste, clear_one, clear_none}
 use Rattle.engine.specs.Stage.{row_words}
 use native.Mathlib.Omega.{arith}
-use borrow.Author.Rules.{rules}
 use Rattle.engine.proofs.rows.clear_row.Goals as goal
 
 pub bit_at-requires : goal.bit_at-requires

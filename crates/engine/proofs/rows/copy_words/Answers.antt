@@ -1,12 +1,11 @@
 -- After l turns the first l words from place a on are those of s: copy_turn.
 use mathlib.Core.Path.{◌≡◌, refl, ap, ◌∙◌}
-use Prim.Native.Nat.{ℕ, ◌+◌, ◌-◌, ◌≤◌}
-use lib.ListN.{length-set, length}
+use Prim.Native.Nat.{ℕ, ◌+◌}
+use lib.ListN.{length-set}
 use lib.Seq.{paste, paste-zero}
 use Rattle.gf2.specs.Rows.{part}
 use Rattle.words.proofs.Parts.{copy_turn}
 use native.Mathlib.Omega.{arith}
-use borrow.Author.Rules.{rules}
 use Rattle.engine.proofs.rows.copy_words.Goals as goal
 
 pub loop-l-init : goal.loop-l-init

@@ -5,7 +5,6 @@ use lib.ListN.{drop}
 use Rattle.words.specs.Words.{rows_of}
 use Rattle.words.proofs.Rows.{row_ends, rows_swapped, rest_swapped, swap_same}
 use native.Mathlib.Omega.{arith}
-use borrow.Author.Rules.{rules}
 use Rattle.engine.proofs.rows.exchange.Goals as goal
 
 pub returns-then-i-p : goal.returns-then-i-p

@@ -5,7 +5,6 @@ use lib.Pow.{pow_pos, shl_exact}
 use lib.Dec.{lit<}
 use native.Mathlib.Nat.{one-mul}
 use native.Mathlib.Omega.{arith}
-use borrow.Author.Rules.{rules}
 use Rattle.engine.proofs.rows.mask.Goals as goal
 
 pub overflow_sub-result : goal.overflow_sub-result

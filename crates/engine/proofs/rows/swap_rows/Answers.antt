@@ -1,13 +1,12 @@
 -- After l turns the first l words of the two rows, which do not overlap, have changed places: swap_turn.
 use mathlib.Core.Path.{◌≡◌, refl, ap, ◌∙◌}
-use Prim.Native.Nat.{ℕ, ◌-◌, ◌*◌, ◌≤◌}
-use lib.ListN.{length, length-set}
+use Prim.Native.Nat.{ℕ, ◌*◌}
+use lib.ListN.{length-set}
 use lib.Seq.{paste, paste-zero}
 use Rattle.gf2.specs.Rows.{part}
 use Rattle.words.proofs.Parts.{swap_turn}
 use Rattle.words.proofs.Rows.{apart}
 use native.Mathlib.Omega.{arith}
-use borrow.Author.Rules.{rules}
 use Rattle.engine.proofs.rows.swap_rows.Goals as goal
 
 pub loop-l-init : goal.loop-l-init

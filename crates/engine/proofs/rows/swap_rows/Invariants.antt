@@ -1,13 +1,9 @@
 -- After l turns the first l words of the two rows, which do not overlap, have changed places: swap_turn.
-use mathlib.Core.Path.{◌≡◌, refl, ap, ◌∙◌}
-use Prim.Native.Nat.{ℕ, ◌-◌, ◌*◌, ◌≤◌}
-use lib.ListN.{length, length-set}
-use lib.Seq.{paste, paste-zero}
+use mathlib.Core.Path.{◌≡◌}
+use Prim.Native.Nat.{◌-◌, ◌≤◌}
+use lib.ListN.{length}
+use lib.Seq.{paste}
 use Rattle.gf2.specs.Rows.{part}
-use Rattle.words.proofs.Parts.{swap_turn}
-use Rattle.words.proofs.Rows.{apart}
-use native.Mathlib.Omega.{arith}
-use borrow.Author.Rules.{rules}
 use Rattle.engine.proofs.rows.swap_rows.Given as goal
 
 abbrev pub invariant-loop-l : goal.invariant-loop-l

@@ -1,7 +1,7 @@
 -- After l turns the first l words from place a on are zero: fill_turn.
 use mathlib.Core.Path.{◌≡◌, ap, ◌∙◌}
-use Prim.Native.Nat.{ℕ, ◌-◌, ◌≤◌}
-use lib.ListN.{length, replicate}
+use Prim.Native.Nat.{ℕ}
+use lib.ListN.{replicate}
 use lib.Seq.{paste, paste-zero}
 use Rattle.words.proofs.Parts.{fill_turn}
 use borrow.Author.Rules.{rules}

@@ -1,10 +1,8 @@
 -- After l turns the first l words from place a on are zero: fill_turn.
-use mathlib.Core.Path.{◌≡◌, ap, ◌∙◌}
-use Prim.Native.Nat.{ℕ, ◌-◌, ◌≤◌}
+use mathlib.Core.Path.{◌≡◌}
+use Prim.Native.Nat.{◌-◌, ◌≤◌}
 use lib.ListN.{length, replicate}
-use lib.Seq.{paste, paste-zero}
-use Rattle.words.proofs.Parts.{fill_turn}
-use borrow.Author.Rules.{rules}
+use lib.Seq.{paste}
 use Rattle.engine.proofs.rows.zero.Given as goal
 
 abbrev pub invariant-loop-l : goal.invariant-loop-l

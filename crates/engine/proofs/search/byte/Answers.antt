@@ -1,6 +1,5 @@
 -- The k bits of a window are below 2 ^ 8, so that the cast keeps them.
 use native.Mathlib.Omega.{arith}
-use borrow.Author.Rules.{rules}
 use Rattle.words.specs.Words.{value}
 use Rattle.engine.specs.Stage.{row_words}
 use Rattle.engine.proofs.NumberLaws.{byte_lt}

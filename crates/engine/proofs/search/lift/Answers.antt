@@ -1,8 +1,7 @@
 -- A turn clears column c in one earlier pivot row more; row base + s, by which it is cleared, stays.
 use mathlib.Core.Path.{◌≡◌, refl, ◌∙◌, subst}
-use Prim.Native.Nat.{ℕ, ◌-◌, ◌*◌, ◌≤◌}
+use Prim.Native.Nat.{ℕ}
 use native.Mathlib.Omega.{arith}
-use lib.ListN.{length, drop}
 use Rattle.words.specs.Words.{rows_of}
 use Rattle.words.proofs.Rows.{length_rows}
 use Rattle.engine.specs.Stage.{Lifted}

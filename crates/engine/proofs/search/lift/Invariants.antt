@@ -1,12 +1,9 @@
 -- A turn clears column c in one earlier pivot row more; row base + s, by which it is cleared, stays.
-use mathlib.Core.Path.{◌≡◌, refl, ◌∙◌, subst}
-use Prim.Native.Nat.{ℕ, ◌-◌, ◌*◌, ◌≤◌}
-use native.Mathlib.Omega.{arith}
+use mathlib.Core.Path.{◌≡◌}
+use Prim.Native.Nat.{◌-◌, ◌*◌, ◌≤◌}
 use lib.ListN.{length, drop}
 use Rattle.words.specs.Words.{rows_of}
-use Rattle.words.proofs.Rows.{length_rows}
 use Rattle.engine.specs.Stage.{Lifted}
-use Rattle.engine.proofs.Steps.{lift_start, lift_more}
 use Rattle.engine.proofs.search.lift.Given as goal
 
 abbrev pub invariant-loop-l : goal.invariant-loop-l

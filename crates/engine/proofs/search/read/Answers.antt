@@ -1,8 +1,8 @@
 -- A turn reads one row more: places up to i have their bytes, places from `to` on are as they were, and u is the union of the former.
 use mathlib.Core.Path.{◌≡◌, refl, sym, ap, ◌∙◌, subst}
-use Prim.Native.Nat.{ℕ, ◌-◌, ◌<◌, ◌≤◌}
+use Prim.Native.Nat.{ℕ, ◌<◌}
 use native.Mathlib.Omega.{arith}
-use lib.ListN.{length, length-set}
+use lib.ListN.{length-set}
 use Rattle.gf2.specs.Rows.{row}
 use Rattle.words.specs.Words.{rows_of, window_bits}
 use Rattle.words.proofs.Rows.{row_ends, get_or_rows}

@@ -1,12 +1,10 @@
 -- A turn reads one row more: places up to i have their bytes, places from `to` on are as they were, and u is the union of the former.
-use mathlib.Core.Path.{◌≡◌, refl, sym, ap, ◌∙◌, subst}
-use Prim.Native.Nat.{ℕ, ◌-◌, ◌<◌, ◌≤◌}
-use native.Mathlib.Omega.{arith}
-use lib.ListN.{length, length-set}
+use mathlib.Core.Path.{◌≡◌}
+use Prim.Native.Nat.{◌-◌, ◌≤◌}
+use lib.ListN.{length}
 use Rattle.gf2.specs.Rows.{row}
 use Rattle.words.specs.Words.{rows_of, window_bits}
-use Rattle.words.proofs.Rows.{row_ends, get_or_rows}
-use Rattle.engine.proofs.NumberLaws.{Reading, reading_start, reading_more}
+use Rattle.engine.proofs.NumberLaws.{Reading}
 use Rattle.engine.proofs.search.read.Given as goal
 
 abbrev pub invariant-loop-i : goal.invariant-loop-i

@@ -1,15 +1,14 @@
 -- Before the loop no pivot is found and the rows have the bits that they will have; a turn does one column more.
 use mathlib.Core.Path.{◌≡◌, refl, ◌∙◌, subst}
 use mathlib.Core.List.{List}
-use Prim.Native.Nat.{ℕ, ◌+◌, ◌-◌, ◌*◌, ◌<◌, ◌≤◌}
+use Prim.Native.Nat.{ℕ}
 use native.Mathlib.Omega.{arith}
 use borrow.Author.Rules.{rules}
-use lib.ListN.{length, get_or, drop}
-use Rattle.gf2.specs.Rows.{SameRowSpace}
+use lib.ListN.{length}
 use Rattle.gf2.proofs.Space.{same_refl, same_trans}
 use Rattle.words.specs.Words.{rows_of}
 use Rattle.words.proofs.Rows.{length_rows}
-use Rattle.engine.specs.Stage.{Search, Union}
+use Rattle.engine.specs.Stage.{Search}
 use Rattle.engine.proofs.Steps.{search_start}
 use Rattle.engine.proofs.search.search.Goals as goal
 
@@ -30,10 +29,10 @@ loop-x-init c =
     let b = c.blank in
     let r = c.read-u in
     let d = c.copy_bytes in
-    let h : List ℕ = r.new.1.1.1.1.1.1.1.0 in
-    let o : List ℕ = d.new.0 in
-    let lh : length h ≡ length g.h.now = r.auto.1.1.1.1.1.1.1.0 in
-    let lo : length o ≡ length g.o.now = d.auto.0 ∙ b.auto.0 in (
+    let h : List ℕ = r.new.h in
+    let o : List ℕ = d.new.o in
+    let lh : length h ≡ length g.h.now = r.auto.h in
+    let lo : length o ≡ length g.o.now = d.auto.o ∙ b.auto.o in (
       search_start g.n g.c g.k g.base M h o g.cols.now (length_rows g.w g.n g.m.now) p.6 (omega (arith, lh, p.4)) (omega (arith, lo, p.5))
           r.ensures.0 d.ensures.0 (λ i l. d.ensures.1 i l ∙ b.ensures.0 i (omega arith) l),
       λ i y a l e. rw (d.ensures.0 i (omega arith) l) (r.ensures.2 i y (omega arith) l e),
@@ -64,7 +63,7 @@ loop-x-preserved c =
     let k = c.column-a in
     let e = k.ensures in
     let v = c.loop-x.invariant in
-    (e.0, e.1, same_trans v.2 e.2, λ i l. e.3 i l ∙ v.3 i l, e.4 ∙ v.4, omega (arith, c.loop-x-test.true), k.auto.0 ∙ v.6, k.auto.1.1.1.1.1.1.1.1.0 ∙ v.7, k.auto.1.1.1.1.1.1.1.1.1.0 ∙ v.8, k.auto.1.1.1.1.1.1.1.1.1.1.0 ∙ v.9)
+    (e.0, e.1, same_trans v.2 e.2, λ i l. e.3 i l ∙ v.3 i l, e.4 ∙ v.4, omega (arith, c.loop-x-test.true), k.auto.m ∙ v.6, k.auto.h ∙ v.7, k.auto.o ∙ v.8, k.auto.cols ∙ v.9)
 
 pub shape_of-m : goal.shape_of-m
 shape_of-m c = c.loop-x.invariant.6

@@ -1,16 +1,10 @@
 -- Before the loop no pivot is found and the rows have the bits that they will have; a turn does one column more.
-use mathlib.Core.Path.{◌≡◌, refl, ◌∙◌, subst}
-use mathlib.Core.List.{List}
+use mathlib.Core.Path.{◌≡◌}
 use Prim.Native.Nat.{ℕ, ◌+◌, ◌-◌, ◌*◌, ◌<◌, ◌≤◌}
-use native.Mathlib.Omega.{arith}
-use borrow.Author.Rules.{rules}
 use lib.ListN.{length, get_or, drop}
 use Rattle.gf2.specs.Rows.{SameRowSpace}
-use Rattle.gf2.proofs.Space.{same_refl, same_trans}
 use Rattle.words.specs.Words.{rows_of}
-use Rattle.words.proofs.Rows.{length_rows}
 use Rattle.engine.specs.Stage.{Search, Union}
-use Rattle.engine.proofs.Steps.{search_start}
 use Rattle.engine.proofs.search.search.Given as goal
 
 abbrev pub invariant-loop-x : goal.invariant-loop-x

@@ -1,9 +1,9 @@
 -- A turn clears row i in the column of one pivot row more; that row has no one in the other columns.
 use mathlib.Core.Path.{◌≡◌, refl, sym, ap, ◌∙◌, subst}
 use mathlib.Core.List.{List}
-use Prim.Native.Nat.{ℕ, ◌+◌, ◌-◌, ◌*◌, ◌/◌, ◌<◌, ◌≤◌}
+use Prim.Native.Nat.{ℕ, ◌+◌, ◌/◌, ◌<◌}
 use native.Mathlib.Omega.{arith}
-use lib.ListN.{length, set, drop}
+use lib.ListN.{set}
 use Rattle.gf2.specs.Rows.{bit, ◌⊕◌, row, pick}
 use Rattle.words.specs.Words.{rows_of}
 use Rattle.words.proofs.Rows.{length_rows}

@@ -1,14 +1,9 @@
 -- A turn clears row i in the column of one pivot row more; that row has no one in the other columns.
-use mathlib.Core.Path.{◌≡◌, refl, sym, ap, ◌∙◌, subst}
-use mathlib.Core.List.{List}
-use Prim.Native.Nat.{ℕ, ◌+◌, ◌-◌, ◌*◌, ◌/◌, ◌<◌, ◌≤◌}
-use native.Mathlib.Omega.{arith}
-use lib.ListN.{length, set, drop}
-use Rattle.gf2.specs.Rows.{bit, ◌⊕◌, row, pick}
+use mathlib.Core.Path.{◌≡◌}
+use Prim.Native.Nat.{◌-◌, ◌*◌, ◌≤◌}
+use lib.ListN.{length, drop}
 use Rattle.words.specs.Words.{rows_of}
-use Rattle.words.proofs.Rows.{length_rows}
 use Rattle.engine.specs.Stage.{Settled}
-use Rattle.engine.proofs.Steps.{settle_start, settle_more}
 use Rattle.engine.proofs.search.settle.Given as goal
 
 abbrev pub invariant-loop-l : goal.invariant-loop-l

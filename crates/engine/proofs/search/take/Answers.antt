@@ -86,12 +86,12 @@ returns c =
     let li = c.lift in
     let sp = c.sweep in
     let M : List ℕ = rows_of g.w g.n g.m.now in
-    let N₁ : List ℕ = rows_of g.w g.n st.new.0 in
-    let N₂ : List ℕ = rows_of g.w g.n sw.new.0 in
-    let N₃ : List ℕ = rows_of g.w g.n li.new.0 in
-    let o₃ : List ℕ = sp.new.0 in
+    let N₁ : List ℕ = rows_of g.w g.n st.new.m in
+    let N₂ : List ℕ = rows_of g.w g.n sw.new.m in
+    let N₃ : List ℕ = rows_of g.w g.n li.new.m in
+    let o₃ : List ℕ = sp.new.o in
     let lM : length M ≡ g.n = length_rows g.w g.n g.m.now in
-    let l₃ : g.n ≤ length o₃ = omega (arith, sp.auto.0, length-set g.o.now g.i (get_or g.o.now (g.base + g.s) 0), length-set (set g.o.now g.i (get_or g.o.now (g.base + g.s) 0)) (g.base + g.s) 0, p.7.long_o) in
+    let l₃ : g.n ≤ length o₃ = omega (arith, sp.auto.o, length-set g.o.now g.i (get_or g.o.now (g.base + g.s) 0), length-set (set g.o.now g.i (get_or g.o.now (g.base + g.s) 0)) (g.base + g.s) 0, p.7.long_o) in
     let t = search_taken g.n g.c g.k g.x g.base g.s M g.h.now g.o.now g.cols.now p.7 g.i N₁ N₂ N₃ o₃ lM p.2 p.4 p.5 p.6 st.ensures.0 sw.ensures.rows li.ensures.0 sp.ensures.0 l₃ in (
       t.0,
       sp.ensures.1,

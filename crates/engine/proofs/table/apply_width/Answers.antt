@@ -34,8 +34,8 @@ clear-requires c =
     let p = c.requires.0 in
     let v = c.args.v in
     let k = c.make-additions in
-    let long : 2 ^ s.r * v ≤ length k.new.1.0 = omega (arith, k.auto.1.0, p.table, narrower v s.w (2 ^ s.r) p.inside) in
-    (p.sizes, p.inside, p.bytes, (λ i h. row_end k.new.1.0 v (2 ^ s.r) (get_or c.args.o.now i 0) long (p.small i h)))
+    let long : 2 ^ s.r * v ≤ length k.new.t = omega (arith, k.auto.t, p.table, narrower v s.w (2 ^ s.r) p.inside) in
+    (p.sizes, p.inside, p.bytes, (λ i h. row_end k.new.t v (2 ^ s.r) (get_or c.args.o.now i 0) long (p.small i h)))
 
 pub returns : goal.returns
 returns c =
@@ -45,10 +45,10 @@ returns c =
     let k = c.make-additions in
     let d = c.clear in
     let m : List ℕ = c.args.m.now in
-    let t' : List ℕ = k.new.1.0 in
+    let t' : List ℕ = k.new.t in
     record {
       now = record {
-        rows = d.ensures.rows ∙ sums_clear s.w v s.n s.base s.r p.inside p.rows m c.args.o.now t' p.sizes.fits (fits_fit m c.type_inv.m) p.low p.small k.ensures.1;
+        rows = d.ensures.rows ∙ sums_clear s.w v s.n s.base s.r p.inside p.rows m c.args.o.now t' p.sizes.fits (fits_fit m (search rules)) p.low p.small k.ensures.1;
         past = d.ensures.past;
       };
       rest = drop_more (2 ^ s.r * v) (2 ^ s.r * s.w) t' c.args.t.now (narrower v s.w (2 ^ s.r) p.inside) k.ensures.2;

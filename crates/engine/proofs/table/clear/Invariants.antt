@@ -1,18 +1,7 @@
 -- The loop's invariant: the rows passed have had the table rows added that their numbers name.
-use Rattle.engine.proofs.Clears.{Clears, clears_start, clears_none, clears_one, clears_done}
+use Rattle.engine.proofs.Clears.{Clears}
 use Rattle.engine.specs.Stage.{table_row}
-use Rattle.words.proofs.Parts.{length_part}
-use Rattle.words.proofs.Rows.{row_ends}
-use Rattle.words.proofs.Value.{fits_fit, part_fits}
-use Rattle.words.specs.Words.{Fit}
-use Rattle.gf2.specs.Rows.{part}
-use Prim.Native.Nat.{ℕ, ◌+◌, ◌-◌, ◌*◌, ◌≤◌}
-use lib.ListN.{length, get_or}
-use mathlib.Core.List.{List}
-use mathlib.Core.Logic.{⊎_elim}
-use mathlib.Core.Path.{◌≡◌, refl, sym, ◌∙◌, subst}
-use borrow.Author.Rules.{rules}
-use native.Mathlib.Omega.{arith}
+use Prim.Native.Nat.{◌-◌, ◌≤◌}
 use Rattle.engine.proofs.table.clear.Given as goal
 
 abbrev pub invariant-loop-i : goal.invariant-loop-i

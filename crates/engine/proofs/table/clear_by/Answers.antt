@@ -6,7 +6,6 @@ use Rattle.words.specs.Words.{xors}
 use lib.Seq.{paste}
 use mathlib.Core.List.{List}
 use mathlib.Core.Path.{ap, ◌∙◌}
-use borrow.Author.Rules.{rules}
 use Rattle.engine.proofs.table.clear_by.Goals as goal
 
 pub returns : goal.returns
@@ -14,4 +13,4 @@ returns c =
     let k = c.copy_words in
     let a = c.args in
     c.add_words.ensures
-    ∙ ap (λ (x : List ℕ). paste a.m.now a.a (xors (part a.a a.v a.m.now) x) a.v) (by_local a.b a.v a.t.now _ k.new.0 c.requires.0 c.requires.2 k.ensures)
+    ∙ ap (λ (x : List ℕ). paste a.m.now a.a (xors (part a.a a.v a.m.now) x) a.v) (by_local a.b a.v a.t.now _ k.new.d c.requires.0 c.requires.2 k.ensures)

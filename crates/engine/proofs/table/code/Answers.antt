@@ -1,7 +1,6 @@
 -- The codebook's rule at entry t.
 use Rattle.method.proofs.Gray.{gray_lt}
 use native.Mathlib.Omega.{arith}
-use borrow.Author.Rules.{rules}
 use Rattle.engine.proofs.table.code.Goals as goal
 
 pub overflow_cast-result : goal.overflow_cast-result

@@ -1,7 +1,6 @@
 -- A word of 32 digits has at most 32 trailing zeros.
 use lib.Count.{trailing_le}
 use native.Mathlib.Omega.{arith}
-use borrow.Author.Rules.{rules}
 use Rattle.engine.proofs.table.joins.Goals as goal
 
 pub overflow_cast-result-2 : goal.overflow_cast-result-2

@@ -9,7 +9,7 @@ use Rattle.words.proofs.Rows.{row_end, rest_paste}
 use Rattle.words.proofs.Value.{fits_fit, part_fits}
 use Rattle.words.specs.Words.{rows_of}
 use Rattle.gf2.specs.Rows.{row, part}
-use Prim.Native.Nat.{ℕ, ◌+◌, ◌-◌, ◌*◌, ◌^◌, ◌<◌, ◌≤◌}
+use Prim.Native.Nat.{ℕ, ◌+◌, ◌*◌, ◌^◌, ◌<◌, ◌≤◌}
 use lib.Count.{count_trailing_zeros}
 use lib.ListN.{length, drop}
 use lib.Pow.{pow_pos}
@@ -65,8 +65,8 @@ loop-l-preserved c =
     let P : List ℕ = spaced a.a a.w a.v a.r a.m.now in
     let N : ℕ = 2 ^ a.r in
     let hl : l.l < 2 ^ a.r = omega (arith, c.loop-l-test.true, c.pow2-end.ensures) in
-    let t' : List ℕ = k.new.1.0 in
-    let x' : List ℕ = k.new.1.1.0 in
+    let t' : List ℕ = k.new.t in
+    let x' : List ℕ = k.new.x in
     let z : ℕ = count_trailing_zeros 32 l.l in
     let g : ℕ = gray l.l in
     let hz : z < a.r = joins_below a.r l.l c.requires.0 hl (omega (arith, l.invariant.4)) in
@@ -81,7 +81,7 @@ loop-l-preserved c =
       codes_turn a.v N l.l P l.t t' x' hg ht c.requires.1 k.ensures.2 loc l.invariant.0,
       loc,
       ap (drop (N * a.v)) k.ensures.2 ∙ rest_paste a.v N g l.t (part 0 a.v x') hg ht lx ∙ l.invariant.2,
-      k.auto.1.0 ∙ l.invariant.3,
+      k.auto.t ∙ l.invariant.3,
       omega (arith, l.invariant.4),
       omega (arith, c.loop-l-test.true),
     )
