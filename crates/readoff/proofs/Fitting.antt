@@ -1,12 +1,12 @@
 -- The tests of shape say exactly whether the shapes fit, and what is found is what the promises speak of.
 use mathlib.Core.Path.{◌≡◌, refl, sym, ap, ap₂, ◌∙◌, subst}
 use mathlib.Core.Logic.{◌≢◌}
-use mathlib.Core.Bool.{Bool, true, false, not}
+use mathlib.Core.Bool.{Bool, true, false}
 use mathlib.Core.List.{List}
 use Prim.Native.Nat.{ℕ, ◌+◌, ◌-◌, ◌*◌, ◌/◌, ◌^◌, ◌≤◌, ◌<◌}
 use native.Mathlib.Nat.{mul-zero, div-lt_iff_lt-mul}
 use native.Mathlib.Omega.{arith}
-use borrow.Author.Tests.{leb-true, leb-false, not-true, not-false}
+use borrow.Author.Tests.{leb-true, leb-false}
 use lib.Dec.{T, leb}
 use lib.ListN.{length}
 use lib.Seq.{paste}
@@ -38,13 +38,13 @@ module _ (rows columns w : ℕ) (m : List ℕ) (wide : columns ≤ 1024) (e : w 
       go true t = record { wide = wide; held = rw e at (holds_fits rows w (length m) ne (leb-true rows (length m / w) t)) }
       go false t = λ h. omega (arith, (div-lt_iff_lt-mul {k = w} (omega arith)).0 (leb-false rows (length m / w) t), rw (← e) at h.held)
 
--- what the test of the rows says, its answer turned round
+-- what the test of the rows says
 module _ (rows columns : ℕ) (m : List ℕ) (b : Bool) (d : Decides b (Holds rows columns m)) where
-  pub held : not b ≡ false → Holds rows columns m
-  held e = yes_so b d (not-false b e)
+  pub held : b ≡ true → Holds rows columns m
+  held = yes_so b d
 
-  pub not_held : not b ≡ true → Holds rows columns m → ⊥
-  not_held e = not_so b d (not-true b e)
+  pub not_held : b ≡ false → Holds rows columns m → ⊥
+  not_held = not_so b d
 
 -- by the number x of an outcome: a buffer of rows x words, and none but that
 module _ (rows columns len : ℕ) (o : Outcome) (e : o ≡ wrong_buffer rows columns len) (x : ℕ) (ex : x ≡ outcome_number o) where
