@@ -1,7 +1,7 @@
 -- A call gives an inverse exactly if its arguments pass the checks and one exists, and answers 9 exactly if they pass and none does: the promise has no third case, and 9 is the
 -- number of no check.
 use mathlib.Core.Path.{◌≡◌, sym, ◌∙◌}
-use mathlib.Core.Logic.{◌⊎◌, inl, inr, ◌↔◌}
+use mathlib.Core.Logic.{inl, inr, ◌↔◌}
 use mathlib.Core.List.{List}
 use Prim.Native.Nat.{ℕ}
 use lib.ListN.{length}

@@ -1,6 +1,6 @@
 -- The inverse's promise leaves no choice: two outcomes that it allows for the same arguments are equal, word for word. And the answer does not depend on k.
 use mathlib.Core.Path.{◌≡◌, sym, ◌∙◌}
-use mathlib.Core.Logic.{◌⊎◌, inl, inr}
+use mathlib.Core.Logic.{inl, inr}
 use mathlib.Core.List.{List}
 use Prim.Native.Nat.{ℕ, ◌*◌}
 use lib.ListN.{length}

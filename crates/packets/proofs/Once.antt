@@ -80,8 +80,8 @@ module _ (rows columns n : ℕ) (m m' m₂ image image' image₂ marks marks' ma
 
   -- two runs that pass their checks, whatever k and work room each has
   module _ (k k₂ : ℕ) (room room₂ room' room₂' : List ℕ) (r r₂ : Answer) (e : solving_checks rows columns n k m (length image) (length marks) (length room) ≡ Done)
-      (e₂ : solving_checks rows columns n k₂ m (length image) (length marks) (length room₂) ≡ Done) (p : solving.solving rows columns n k m image marks room r m' image' marks' room')
-      (q : solving.solving rows columns n k₂ m image marks room₂ r₂ m₂ image₂ marks₂ room₂') where
+      (e₂ : solving_checks rows columns n k₂ m (length image) (length marks) (length room₂) ≡ Done) (p : solving.SolvingPromised rows columns n k m image marks room r m' image' marks' room')
+      (q : solving.SolvingPromised rows columns n k₂ m image marks room₂ r₂ m₂ image₂ marks₂ room₂') where
     both : (m' ≡ m₂) × (image' ≡ image₂) × (marks' ≡ marks₂) × Alike r r₂ × (additions k columns ≡ additions k₂ columns → r ≡ r₂)
     both =
         let passes = solving_passed rows columns n k m (length image) (length marks) (length room) e in
@@ -90,8 +90,8 @@ module _ (rows columns n : ℕ) (m m' m₂ image image' image₂ marks marks' ma
     pub any_k : (m' ≡ m₂) × (image' ≡ image₂) × (marks' ≡ marks₂) × Alike r r₂
     any_k = (both.0, both.1, both.2, both.3)
 
-  pub one_solving : (k : ℕ) (room room' room₂ : List ℕ) (r r₂ : Answer) → solving.solving rows columns n k m image marks room r m' image' marks' room'
-      → solving.solving rows columns n k m image marks room r₂ m₂ image₂ marks₂ room₂ → (r ≡ r₂) × (m' ≡ m₂) × (image' ≡ image₂) × (marks' ≡ marks₂) × (room' ≡ room₂)
+  pub one_solving : (k : ℕ) (room room' room₂ : List ℕ) (r r₂ : Answer) → solving.SolvingPromised rows columns n k m image marks room r m' image' marks' room'
+      → solving.SolvingPromised rows columns n k m image marks room r₂ m₂ image₂ marks₂ room₂ → (r ≡ r₂) × (m' ≡ m₂) × (image' ≡ image₂) × (marks' ≡ marks₂) × (room' ≡ room₂)
   one_solving k room room' room₂ r r₂ p q =
       by_promise p
       (λ x e a. let b = q.stopped x e in (a.0 ∙ sym b.0, a.1 ∙ sym b.1, a.2 ∙ sym b.2, a.3 ∙ sym b.3, a.4 ∙ sym b.4))
@@ -110,7 +110,7 @@ module _ (rows columns n : ℕ) (m names names' names₂ : List ℕ) (s : Slice 
   same_names r r₂ (inl c) (inr d) = absurd (contradiction_unmet n (columns - n) M (value names') c.1.contradicts d.1)
   same_names r r₂ (inr c) (inl d) = absurd (contradiction_unmet n (columns - n) M (value names₂) d.1.contradicts c.1)
 
-  pub one_verdict : (k : ℕ) (room room' room₂ : List ℕ) (r r₂ : Verdict) → naming.naming rows columns n k m names room r names' room' → naming.naming rows columns n k m names room r₂ names₂ room₂
+  pub one_verdict : (k : ℕ) (room room' room₂ : List ℕ) (r r₂ : Verdict) → naming.NamingPromised rows columns n k m names room r names' room' → naming.NamingPromised rows columns n k m names room r₂ names₂ room₂
       → (r ≡ r₂) × (names' ≡ names₂) × (room' ≡ room₂)
   one_verdict k room room' room₂ r r₂ p q =
       by_promise p
@@ -123,6 +123,6 @@ module _ (rows columns n : ℕ) (m names names' names₂ : List ℕ) (s : Slice 
 
   -- the named packets do not depend on k
   pub any_k_names : (k k₂ : ℕ) (room room₂ room' room₂' : List ℕ) (r r₂ : Verdict) → contradiction_checks rows columns n k m (length names) (length room) ≡ Done
-      → contradiction_checks rows columns n k₂ m (length names) (length room₂) ≡ Done → naming.naming rows columns n k m names room r names' room'
-      → naming.naming rows columns n k₂ m names room₂ r₂ names₂ room₂' → (r ≡ r₂) × (names' ≡ names₂)
+      → contradiction_checks rows columns n k₂ m (length names) (length room₂) ≡ Done → naming.NamingPromised rows columns n k m names room r names' room'
+      → naming.NamingPromised rows columns n k₂ m names room₂ r₂ names₂ room₂' → (r ≡ r₂) × (names' ≡ names₂)
   any_k_names k k₂ room room₂ room' room₂' r r₂ e e₂ p q = same_names r r₂ (p.past e).0 (q.past e₂).0

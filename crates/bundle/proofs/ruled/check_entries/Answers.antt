@@ -21,7 +21,7 @@ pub loop-i-preserved : goal.loop-i-preserved
 loop-i-preserved c = (search entries_turn, search rules, search entries_inside)
 
 pub returns-then-at-b : goal.returns-then-at-b
-returns-then-at-b c = search entries_left
+returns-then-at-b c = search (rules, entries_left)
 
 pub returns : goal.returns
 returns c = search entries_none

@@ -16,8 +16,8 @@ overflow_add-e c =
     let h = body_fits g.words.now g.a g.rows g.columns (search rules) c.per_row.ensures in
     search rules
 
-pub returns : goal.returns
-returns c = c.hold_rows.ensures ∙ search part_holds
-
 pub slice_bounds-hold_rows-end : goal.slice_bounds-hold_rows-end
 slice_bounds-hold_rows-end c = search body_fits
+
+pub returns : goal.returns
+returns c = c.hold_rows.ensures ∙ search part_holds

@@ -1,0 +1,28 @@
+-- The checks refuse, or what passing means is handed on, of a square matrix.
+use mathlib.Core.Path.{◌≡◌, refl, sym, ◌∙◌}
+use lib.ListN.{length}
+use Rattle.refusals.specs.declared.Outcome.TheVariants.{Done}
+use Rattle.refusals.proofs.Chain.{promise_stopped, promise_past}
+use Rattle.refusals.proofs.Passed.{inverse_passed}
+use Rattle.inverse.proofs.Calls.{squared}
+use borrow.Author.Rules.{rules}
+use Rattle.inverse.proofs.invert.Goals as goal
+
+pub invert_passed-requires : goal.invert_passed-requires
+invert_passed-requires c =
+    let o = c.inverse-o in
+    let g = c.args in
+    let passed : o.result ≡ Done = search rules in
+    let lengths = length g.res.now in
+    squared g.rows g.columns g.k g.m.now lengths (length g.room.now)
+    (inverse_passed g.rows g.columns g.k g.m.now lengths (length g.room.now) (sym o.ensures ∙ passed))
+
+pub returns-in-Refused : goal.returns-in-Refused
+returns-in-Refused c =
+    let o = c.inverse-o in
+    promise_stopped o.result (search rules) c.in-Refused.r (search rules) (search rules, refl, refl)
+
+pub returns-in-Done : goal.returns-in-Done
+returns-in-Done c =
+    let o = c.inverse-o in
+    promise_past o.result (search rules) (search rules) (search rules)
