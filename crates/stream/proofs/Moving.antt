@@ -1,9 +1,27 @@
--- What came fits the room that was lent.
-use mathlib.Core.Path.{◌≡◌, subst}
-use Prim.Native.Nat.{ℕ, ◌≤◌}
-use Rattle.stream.specs.declared.Moved.{Moved}
-use Rattle.stream.specs.declared.Moved.TheVariants.{Bytes}
-use Rattle.stream.specs.Stream.{Within}
+-- What was moved in two steps stands one after the other at the front.
+use Rattle.std.proofs.Common.{◌≡◌, ℕ, ◌+◌, ◌-◌, ◌≤◌, List, ◌++◌, length, take, drop, Option, sym, ap, ◌∙◌, subst, le_refl, drop_at, length-take-le}
+use Rattle.std.proofs.lemmas.Slice.{take-put_mid_below}
+use Rattle.std.proofs.lemmas.List.{take_rest}
+use Rattle.std.specs.Io.KnownBytes.{Consumes, Appends}
+use Rattle.std.proofs.KnownBytes.{Consumes-trans, Appends-trans}
+use borrow.Rule.Slice.PartMut.{put_mid, post_of}
+use lib.Seq.{take-add, take-append-le}
 
-pub bytes_within : {len n : ℕ} {m : Moved} → m ≡ Bytes n → Within len m → n ≤ len
-bytes_within {len} e w = subst (Within len) e w
+-- the front of a list in which a part was put: what stood before the part, and the part's front
+front_of_put_mid : (at room n : ℕ) (xs part : List ℕ) → at ≤ length xs → n ≤ length part → take at xs ++ take n part ≡ take (at + n) (put_mid at room xs part)
+front_of_put_mid at room n xs part within fits =
+    let ys = put_mid at room xs part in
+    let after = post_of at room xs in
+    let before : take at ys ≡ take at xs = take-put_mid_below _ _ _ _ _ (le_refl _) within in
+    let here : take n (drop at ys) ≡ take n part = ap (take n) (drop_at (take at xs) (part ++ after) at (length-take-le at xs within)) ∙ take-append-le n part after fits in
+    sym (take-add at n ys ∙ ap (λ l. l ++ take n (drop at ys)) before ∙ ap (λ l. take at xs ++ l) here)
+
+pub read_more : (a b c : Option (List ℕ)) (at room n : ℕ) (xs part : List ℕ) → at ≤ length xs → n ≤ length part
+    → Consumes a b (take at xs) → Consumes b c (take n part) → Consumes a c (take (at + n) (put_mid at room xs part))
+read_more a b c at room n xs part within fits before here =
+    subst (Consumes a c) (front_of_put_mid at room n xs part within fits) (Consumes-trans a b c _ _ before here)
+
+pub written_more : (a b c : Option (List ℕ)) (at n : ℕ) (xs : List ℕ) → Appends a b (take at xs) → Appends b c (take n (take (length xs - at) (drop at xs))) → Appends a c (take (at + n) xs)
+written_more a b c at n xs before here =
+    let rest = subst (λ l. Appends b c (take n l)) (take_rest xs at) here in
+    subst (Appends a c) (sym (take-add at n xs)) (Appends-trans a b c _ _ before rest)

@@ -1,15 +1,14 @@
 #![tactic(auto)]
 // Streams, read to their end and written whole. What was interrupted, or would wait, is tried again; whatever else fails is told.
-ghost use Rattle.std.specs.Prelude.{◌≡◌, true, ◌<◌, length};
-ghost use Rattle.stream.specs.Stream.{Within};
+ghost use Rattle.std.specs.Prelude.{◌≡◌, true, false, ◌<◌, length};
+ghost use Rattle.std.specs.Io.KnownBytes.{Appends};
+ghost use Rattle.stream.specs.Stream.{Within, ReadSome, ReadFull, WrittenSome, AppendsFront};
+
+use std::io::{ErrorKind, Read, Write};
+use std::thread;
 
 // how often in a row a stream may have nothing to give or to take before it has failed: some seconds
 const TRIES: usize = 4000000;
-
-// the errors of C that pass by themselves: interrupted, would wait
-const EINTR: i32 = 4;
-
-const EAGAIN: i32 = 11;
 
 // how many bytes were read or written; or that it failed
 #[derive(Drop)]
@@ -19,48 +18,64 @@ pub enum Moved {
 }
 
 // whether what failed is to be tried again, after so many tries in vain; others run meanwhile
-fn again(tries: usize) -> bool
+fn again(error: ErrorKind, tries: usize) -> bool
     ensures { result ≡ true → tries < 4000000 }
 {
-    let error = os::errno();
     if tries < TRIES {
-        if error == EINTR || error == EAGAIN {
-            libc::sched_yield();
+        // the errors that pass by themselves
+        if error == ErrorKind::Interrupted || error == ErrorKind::WouldBlock {
+            thread::yield_now();
             return true;
         }
     }
     false
 }
 
-// one read
-fn read_some(stream: i32, part: &mut [u8]) -> Moved
-    ensures { Within (length part.old) result }
+// one read, tried again while its error passes by itself
+fn read_some<R: Read>(stream: &mut R, part: &mut [u8]) -> Moved
+    ensures within { Within (length part.old) result }
+    ensures bytes { ReadSome (R.remaining stream.old) (R.remaining stream.new) result part.new }
 {
-    let n = libc::read(stream, part);
-    if n < 0 {
-        return Moved::Failed;
+    let mut tries = 0;
+    loop {
+        match stream.read(part) {
+            Ok(n) => return Moved::Bytes(n),
+            Err(e) => {
+                if !again(e.kind(), tries) {
+                    return Moved::Failed;
+                }
+                tries += 1;
+            }
+        }
     }
-    Moved::Bytes(io::count(n, part))
 }
 
-// one write
-fn write_some(stream: i32, part: &[u8]) -> Moved
-    ensures { Within (length part.now) result }
+// one write, tried again in the same way
+fn write_some<W: Write>(stream: &mut W, part: &[u8]) -> Moved
+    ensures within { Within (length part.now) result }
+    ensures bytes { WrittenSome (W.contents stream.old) (W.contents stream.new) result part.now }
 {
-    let n = libc::write(stream, part);
-    if n < 0 {
-        return Moved::Failed;
+    let mut tries = 0;
+    loop {
+        match stream.write(part) {
+            Ok(n) => return Moved::Bytes(n),
+            Err(e) => {
+                if !again(e.kind(), tries) {
+                    return Moved::Failed;
+                }
+                tries += 1;
+            }
+        }
     }
-    Moved::Bytes(io::count(n, part))
 }
 
 // reads until the stream ends or the buffer is full
-pub fn read(stream: i32, buffer: &mut [u8]) -> Moved
-    ensures { Within (length buffer.old) result }
+pub fn read<R: Read>(stream: &mut R, buffer: &mut [u8]) -> Moved
+    ensures within { Within (length buffer.old) result }
+    ensures bytes { ReadFull (R.remaining stream.old) (R.remaining stream.new) result buffer.new }
 {
     let len = buffer.len();
     let mut at = 0;
-    let mut tries = 0;
     while at < len {
         let moved = read_some(stream, &mut buffer[at..]);
         match moved {
@@ -69,26 +84,21 @@ pub fn read(stream: i32, buffer: &mut [u8]) -> Moved
                     return Moved::Bytes(at);
                 }
                 at += n;
-                tries = 0;
             }
-            Moved::Failed => {
-                if !again(tries) {
-                    return Moved::Failed;
-                }
-                tries += 1;
-            }
+            Moved::Failed => return Moved::Failed,
         }
     }
     Moved::Bytes(at)
 }
 
 // writes all bytes; answers whether the stream took them
-pub fn write(stream: i32, bytes: &[u8]) -> bool
-    ensures { length bytes.now ≡ 0 → result ≡ true }
+pub fn write<W: Write>(stream: &mut W, bytes: &[u8]) -> bool
+    ensures empty { length bytes.now ≡ 0 → result ≡ true }
+    ensures whole { result ≡ true → Appends (W.contents stream.old) (W.contents stream.new) bytes.now }
+    ensures begun { result ≡ false → AppendsFront (W.contents stream.old) (W.contents stream.new) bytes.now }
 {
     let len = bytes.len();
     let mut at = 0;
-    let mut tries = 0;
     while at < len {
         let moved = write_some(stream, &bytes[at..]);
         match moved {
@@ -97,14 +107,8 @@ pub fn write(stream: i32, bytes: &[u8]) -> bool
                     return false;
                 }
                 at += n;
-                tries = 0;
             }
-            Moved::Failed => {
-                if !again(tries) {
-                    return false;
-                }
-                tries += 1;
-            }
+            Moved::Failed => return false,
         }
     }
     true

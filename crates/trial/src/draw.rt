@@ -3,7 +3,7 @@ use super::{buffer, plain};
 use std::num;
 
 // The numbers of a call, the kind of its matrix, and the generator's start. Where there are no packets n is the columns.
-#[derive(Drop)]
+#[derive(Clone, Copy)]
 pub struct Case {
     pub rows: usize,
     pub columns: usize,
