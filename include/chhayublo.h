@@ -1,5 +1,5 @@
 /*
- * Chhayublo: dense linear algebra over GF(2), for C11 and C++17 on x86-64 Linux (System V ABI).
+ * Chhayublo: dense linear algebra over GF(2), for C11 and C++17 on x86-64 Linux (System V ABI), level x86-64-v2 and above.
  * Link with crates/chhayublo/out/libchhayublo.a, which `rt lib` writes in crates/chhayublo. It needs memcpy and memset from
  * elsewhere and nothing else, keeps no state between calls and allocates nothing.
  *
