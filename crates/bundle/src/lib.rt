@@ -9,13 +9,13 @@ ghost use Rattle.bundle.specs.Answers.{counted_number, told_number, counted_in, 
 
 use refusals::{Outcome, Refusal};
 
-#[derive(Drop)]
+#[derive(Clone, Copy)]
 pub enum Counted {
     Entries(usize),
     Refused(Refusal),
 }
 
-#[derive(Drop)]
+#[derive(Clone, Copy)]
 pub enum Told {
     Numbers { kind: u16, rows: u16, columns: u16 },
     Refused(Refusal),

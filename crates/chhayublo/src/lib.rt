@@ -21,7 +21,7 @@ use packets::Verdict;
 
 // where a row stands in the caller's words: its first word, and how many words it has; 0 and 0 where the view is refused
 #[repr(C)]
-#[derive(Drop)]
+#[derive(Clone, Copy)]
 pub struct SeenRow {
     pub start: usize,
     pub words: usize,
@@ -29,7 +29,7 @@ pub struct SeenRow {
 
 // what reduction and solving answer; refusal is its number, or 0
 #[repr(C)]
-#[derive(Drop)]
+#[derive(Clone, Copy)]
 pub struct SeenAnswer {
     pub refusal: u64,
     pub rank: usize,
@@ -40,7 +40,7 @@ pub struct SeenAnswer {
 
 // what the contradiction call answers: named is 1 where packets have been named, else 0
 #[repr(C)]
-#[derive(Drop)]
+#[derive(Clone, Copy)]
 pub struct SeenNames {
     pub refusal: u64,
     pub named: u64,
@@ -48,7 +48,7 @@ pub struct SeenNames {
 
 // how many entries a bundle has
 #[repr(C)]
-#[derive(Drop)]
+#[derive(Clone, Copy)]
 pub struct SeenCount {
     pub refusal: u64,
     pub entries: usize,
@@ -56,7 +56,7 @@ pub struct SeenCount {
 
 // an entry's three numbers
 #[repr(C)]
-#[derive(Drop)]
+#[derive(Clone, Copy)]
 pub struct SeenEntry {
     pub refusal: u64,
     pub kind: u64,
@@ -66,7 +66,7 @@ pub struct SeenEntry {
 
 // how many bytes a written bundle has
 #[repr(C)]
-#[derive(Drop)]
+#[derive(Clone, Copy)]
 pub struct SeenLength {
     pub refusal: u64,
     pub bytes: usize,

@@ -14,7 +14,7 @@ use refusals::Refusal;
 const K: usize = 4;
 
 // what reducing an entry answers: its shape, and the rank and table additions of its reduced form; the refusal; or that words or room are too short
-#[derive(Drop)]
+#[derive(Clone, Copy)]
 pub enum EntryReduced {
     Figures {
         rows: usize,

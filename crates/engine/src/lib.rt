@@ -18,14 +18,14 @@ mod search;
 mod table;
 
 // what one window gives
-#[derive(Drop)]
+#[derive(Clone, Copy)]
 pub(crate) struct Progress {
     pub(crate) rank: usize,
     pub(crate) additions: usize,
 }
 
 // done, or nothing was changed; the rank and the table additions
-#[derive(Drop)]
+#[derive(Clone, Copy)]
 pub struct Eliminated {
     pub done: bool,
     pub rank: usize,

@@ -9,7 +9,7 @@ ghost use Rattle.engine.specs.Stage.{Sizes, row_words, Search, Union, Own, Settl
 use super::{bytes, rows};
 
 // the union of what the rows not yet used will have, and the number of pivots found
-#[derive(Drop)]
+#[derive(Clone, Copy)]
 pub(crate) struct Seen {
     pub(crate) union: u8,
     pub(crate) found: usize,

@@ -58,7 +58,7 @@ pub(crate) fn pow2(k: usize) -> usize
 }
 
 // the pivot rows that a window has found: r rows from row base on, among n rows of w words
-#[derive(Drop)]
+#[derive(Clone, Copy)]
 pub(crate) struct Pivots {
     pub(crate) n: usize,
     pub(crate) w: usize,

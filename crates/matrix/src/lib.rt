@@ -10,7 +10,7 @@ use refusals::{Outcome, Refusal};
 
 // what reduction and solving answer: the outcome; the rank; how many blocks are known, 0 in a reduction; the table additions; and the pivot columns from the
 // top row down, with 65,535 in the places behind them
-#[derive(Drop)]
+#[derive(Clone, Copy)]
 pub struct Answer {
     pub outcome: Outcome,
     pub rank: usize,

@@ -9,7 +9,7 @@ ghost use Rattle.pack.specs.Writing.{written_number, written, output};
 
 use refusals::{Outcome, Refusal};
 
-#[derive(Drop)]
+#[derive(Clone, Copy)]
 pub enum Written {
     Bytes(usize),
     Refused(Refusal),

@@ -14,7 +14,7 @@ use readoff::{Reading, Solved};
 use refusals::{Outcome, Refusal};
 
 // Named: packets that contradict each other have been named; None: there are none, some image meets all
-#[derive(Drop)]
+#[derive(Clone, Copy)]
 pub enum Verdict {
     Named,
     None,

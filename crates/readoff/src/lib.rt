@@ -13,7 +13,7 @@ ghost use Rattle.readoff.specs.Steps.{FirstIn, Tells};
 mod row;
 
 // Present: what was looked for is there, and written where a buffer is lent; Absent: it is not; Unfit: the shapes do not fit. Only Present writes
-#[derive(Drop)]
+#[derive(Clone, Copy)]
 pub enum Reading {
     Unfit,
     Absent,
@@ -21,7 +21,7 @@ pub enum Reading {
 }
 
 // Known: how many blocks are; Contradictory: a pivot stands in the payload; Unfit: the shapes do not fit. Only Known writes
-#[derive(Drop)]
+#[derive(Clone, Copy)]
 pub enum Solved {
     Unfit,
     Contradictory,

@@ -11,7 +11,7 @@ use std::thread;
 const TRIES: usize = 4000000;
 
 // how many bytes were read or written; or that it failed
-#[derive(Drop)]
+#[derive(Clone, Copy)]
 pub enum Moved {
     Bytes(usize),
     Failed,
