@@ -4,3 +4,4 @@ pub mod Entries
 pub mod Found
 pub mod Example
 pub mod Short
+pub mod Whole

@@ -1,12 +1,13 @@
 -- The report of any input is shorter than the buffer that it is put in.
-use mathlib.Core.Path.{◌≡◌, refl, sym, ap, ◌∙◌, subst}
+use mathlib.Core.Path.{◌≡◌, refl, sym, ap, ap₂, ◌∙◌, subst}
 use mathlib.Core.Bool.{Bool, true, false, cond}
 use mathlib.Core.List.{List, [], ◌∷◌, ◌++◌}
 use Prim.Native.Nat.{ℕ, zero, suc, ◌+◌, ◌*◌, ◌/◌, ◌%◌, ◌≤◌}
 use native.Mathlib.Nat.{le_trans, mul-le-mul_left, mul_assoc, mul_comm, zero-mul, suc-mul}
 use native.Mathlib.Omega.{arith}
 use lib.Dec.{eqb, ltb, lit≤}
-use lib.ListN.{length, drop, length-append}
+use lib.ListN.{length, take, drop, length-append}
+use lib.Seq.{take-append_seam}
 use Rattle.gf2.specs.Reduced.{rank}
 use Rattle.gf2.specs.Additions.{additions}
 use Rattle.gf2.specs.Rref.{rref}
@@ -128,3 +129,6 @@ whole_report b out out' r l a = put_all (report b) out out' r a (le_trans (repor
 
 pub report_ends : (b rest out' : List ℕ) (r : ℕ) → r ≡ length (report b) → out' ≡ report b ++ rest → r ≤ length out'
 report_ends b rest out' r e h = omega (arith, e, ap length h ∙ length-append (report b) rest)
+
+pub report_front : (b rest out' : List ℕ) (r : ℕ) → r ≡ length (report b) → out' ≡ report b ++ rest → take r out' ≡ report b
+report_front b rest out' r e h = ap₂ take e h ∙ take-append_seam (report b) rest
