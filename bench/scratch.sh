@@ -33,14 +33,14 @@ apart() {
 # copied CHECKOUT COPY: without what rt made there; of that it takes by itself what fits, so what is proved already is not proved again
 copied() {
     mkdir -p "$2"
-    tar -C "$1" --anchored --no-wildcards-match-slash --exclude 'crates/*/out' -cf - crates crates.txt | tar -C "$2" -xf -
+    tar -C "$1" --anchored --no-wildcards-match-slash --exclude 'crates/*/out' -cf - crates crates.txt archive | tar -C "$2" -xf -
 }
 
-rt_in() {
-    cd "$1" && shift && TMPDIR=$scratch exec rt "$@"
+within() {
+    cd "$1" && shift && TMPDIR=$scratch exec "$@"
 }
 
-# built CRATE WORDS..: rt WORDS in that folder; what it writes is shown only if it fails
+# built FOLDER COMMAND..: the command there; what it writes is shown only if it fails
 built() {
-    apart rt_in "$@" >"$scratch/log" 2>&1 || { cat "$scratch/log"; exit 2; }
+    apart within "$@" >"$scratch/log" 2>&1 || { cat "$scratch/log"; exit 2; }
 }

@@ -1,6 +1,6 @@
 /* Blocks of a byte are sent as xor packets, some packets are lost, and what can be known of the blocks is printed: first of four
    blocks, where a packet fits one word, then of 72, where it takes two.
-   cc -std=c11 -I include examples/session.c crates/chhayublo/out/libchhayublo.a -o session */
+   cc -std=c11 -I include examples/session.c target/staticlib/libchhayublo.a -o session */
 #include <chhayublo.h>
 #include <stdio.h>
 #include <string.h>

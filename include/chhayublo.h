@@ -1,7 +1,7 @@
 /*
  * Chhayublo: dense linear algebra over GF(2), for C11 and C++17 on x86-64 Linux (System V ABI), level x86-64-v2 and above.
- * Link with crates/chhayublo/out/libchhayublo.a, which `rt lib` writes in crates/chhayublo. It needs memcpy and memset from
- * elsewhere and nothing else, keeps no state between calls and allocates nothing.
+ * Link with target/staticlib/libchhayublo.a, which `./archive` writes. It needs memcpy and memset from elsewhere
+ * and nothing else, keeps no state between calls and allocates nothing.
  *
  * VERSION
  *   CHHAYUBLO_VERSION is the version of this header, chhayublo_version() that of the archive. Both grow by 1 with every change of

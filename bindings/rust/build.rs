@@ -1,12 +1,12 @@
 // Links libchhayublo.a.
 // - From the folder CHHAYUBLO_LIB_DIR, if that is set. A relative one is looked for from where cargo was called, as the variable PWD
 //   tells it, and then from this package's folder, where build scripts run: the first that has the archive is taken.
-// - Else from the repository's crates/chhayublo/out. Where `rt` is on the PATH it first brings the archive up to date: again whenever the
+// - Else from the repository's target/staticlib. Where `rt` is on the PATH it first brings the archive up to date: again whenever the
 //   library's sources change, which takes minutes at first, and about one afterwards. Elsewhere the archive is taken as it is.
 use std::env;
 use std::io::ErrorKind;
 use std::path::{Path, PathBuf};
-use std::process::Command;
+use std::process::{Command, Stdio};
 
 const ARCHIVE: &str = "libchhayublo.a";
 
@@ -21,15 +21,16 @@ fn lent_folder(lent: PathBuf, package: &Path) -> PathBuf {
 }
 
 fn own_folder(root: &Path) -> PathBuf {
-    let library = root.join("crates/chhayublo");
-    let folder = library.join("out");
-    match Command::new("rt").arg("lib").current_dir(&library).status() {
-        Ok(status) if status.success() => watch_sources(root),
+    let folder = root.join("target/staticlib");
+    match Command::new("rt").arg("version").stdout(Stdio::null()).status() {
         Err(error) if error.kind() == ErrorKind::NotFound => watch(&folder),
-        other => panic!("`rt lib` in {} failed: {other:?}; or set CHHAYUBLO_LIB_DIR", library.display()),
+        _ => match Command::new(root.join("archive")).status() {
+            Ok(status) if status.success() => watch_sources(root),
+            other => panic!("`./archive` in {} failed: {other:?}; or set CHHAYUBLO_LIB_DIR", root.display()),
+        },
     }
     let archive = folder.join(ARCHIVE);
-    assert!(archive.exists(), "{} is missing: call `rt lib` in {}, or set CHHAYUBLO_LIB_DIR", archive.display(), library.display());
+    assert!(archive.exists(), "{} is missing: call `./archive`, or set CHHAYUBLO_LIB_DIR", archive.display());
     folder
 }
 

@@ -6,7 +6,7 @@ fn main() {
     let here = PathBuf::from(env::var_os("CARGO_MANIFEST_DIR").expect("set by cargo"));
     let folder = match env::var_os("CHHAYUBLO_LIB_DIR") {
         Some(folder) => PathBuf::from(folder),
-        None => here.join("../../crates/chhayublo/out"),
+        None => here.join("../../target/staticlib"),
     };
     println!("cargo:rerun-if-env-changed=CHHAYUBLO_LIB_DIR");
     println!("cargo:rerun-if-changed={}", folder.join("libchhayublo.a").display());
