@@ -1,16 +1,26 @@
 -- The buffers are as long as the report asks for, and what is written is the report.
-use Rattle.std.proofs.Common.{rules, ℕ, sym, subst, length-take-le}
+use Rattle.std.proofs.Common.{rules, ℕ, ◌≤◌, length, replicate, sym, subst, length-take-le}
 use Rattle.std.proofs.lemmas.List.{length-replicate}
-use native.Mathlib.Nat.{le_of_eq}
+use lib.Dec.{lit≤}
 use Rattle.std.specs.Io.KnownBytes.{Appends}
 use Rattle.reduce.proofs.Short.{report_ends, report_front}
 use Rattle.reduce.proofs.answer.Goals as goal
 
+-- the bytes of the buffer
+unfoldable made : ℕ
+made = 544768
+
+-- A list of so many is never counted one by one: that goes deeper than the checker can.
+long_enough : (n : ℕ) → 544768 ≤ n → 544768 ≤ length (replicate {0} {A = ℕ} n 0)
+long_enough n h = subst (λ (k : ℕ). 544768 ≤ k) (sym (length-replicate {0} {A = ℕ} n 0)) h
+
 pub slice_bounds-whole-end-3 : goal.slice_bounds-whole-end-3
-slice_bounds-whole-end-3 g c = sym (length-replicate {0} {A = ℕ} 544768 0)
+unfolding made
+slice_bounds-whole-end-3 g c = sym (length-replicate {0} {A = ℕ} made 0)
 
 pub whole-end-requires : goal.whole-end-requires
-whole-end-requires g c = (search rules, search rules, le_of_eq (sym (length-replicate {0} {A = ℕ} 544768 0)))
+unfolding made
+whole-end-requires g c = (search rules, search rules, long_enough made (lit≤ tt))
 
 pub slice_bounds-out-end : goal.slice_bounds-out-end
 slice_bounds-out-end g c = report_ends _ _ c.whole-end.new.out c.whole-end.result c.whole-end.ensures.0 c.whole-end.ensures.1
