@@ -2,7 +2,6 @@
 # begun. $here is the folder of the script.
 root=$(dirname "$here")
 scratch=$(mktemp -d)
-chmod 711 "$scratch" # rt tries programs in it, as another user
 
 leave() {
     local job
@@ -31,21 +30,17 @@ apart() {
     wait "$!"
 }
 
-# copied CHECKOUT COPY: what is proved already is not proved again
+# copied CHECKOUT COPY: without what rt made there; of that it takes by itself what fits, so what is proved already is not proved again
 copied() {
-    local kept
-    mkdir -p "$2/target"
-    cp -R "$1/crates" "$1/crates.txt" "$2/"
-    for kept in rlib stamp bin; do
-        [ ! -d "$1/target/$kept" ] || cp -R "$1/target/$kept" "$2/target/"
-    done
+    mkdir -p "$2"
+    tar -C "$1" --anchored --no-wildcards-match-slash --exclude 'crates/*/out' -cf - crates crates.txt archive | tar -C "$2" -xf -
 }
 
-rt_in() {
-    cd "$1" && shift && TMPDIR=$scratch exec rt "$@"
+within() {
+    cd "$1" && shift && TMPDIR=$scratch exec "$@"
 }
 
-# built COPY WORDS..: rt WORDS there; what it writes is shown only if it fails
+# built FOLDER COMMAND..: the command there; what it writes is shown only if it fails
 built() {
-    apart rt_in "$@" >"$scratch/log" 2>&1 || { cat "$scratch/log"; exit 2; }
+    apart within "$@" >"$scratch/log" 2>&1 || { cat "$scratch/log"; exit 2; }
 }

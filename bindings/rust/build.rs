@@ -6,7 +6,7 @@
 use std::env;
 use std::io::ErrorKind;
 use std::path::{Path, PathBuf};
-use std::process::Command;
+use std::process::{Command, Stdio};
 
 const ARCHIVE: &str = "libchhayublo.a";
 
@@ -22,22 +22,31 @@ fn lent_folder(lent: PathBuf, package: &Path) -> PathBuf {
 
 fn own_folder(root: &Path) -> PathBuf {
     let folder = root.join("target/staticlib");
-    match Command::new("rt").args(["staticlib", "chhayublo"]).current_dir(root).status() {
-        // not the archive, which is written anew each time
-        Ok(status) if status.success() => {
-            println!("cargo:rerun-if-changed={}", root.join("crates").display());
-            println!("cargo:rerun-if-changed={}", root.join("crates.txt").display());
-        }
+    match Command::new("rt").arg("version").stdout(Stdio::null()).status() {
         Err(error) if error.kind() == ErrorKind::NotFound => watch(&folder),
-        other => panic!("`rt staticlib chhayublo` in {} failed: {other:?}; or set CHHAYUBLO_LIB_DIR", root.display()),
+        _ => match Command::new(root.join("archive")).status() {
+            Ok(status) if status.success() => watch_sources(root),
+            other => panic!("`./archive` in {} failed: {other:?}; or set CHHAYUBLO_LIB_DIR", root.display()),
+        },
     }
     let archive = folder.join(ARCHIVE);
-    assert!(archive.exists(), "{} is missing: call `rt staticlib chhayublo`, or set CHHAYUBLO_LIB_DIR", archive.display());
+    assert!(archive.exists(), "{} is missing: call `./archive`, or set CHHAYUBLO_LIB_DIR", archive.display());
     folder
 }
 
 fn watch(folder: &Path) {
     println!("cargo:rerun-if-changed={}", folder.join(ARCHIVE).display());
+}
+
+/// not what rt makes in a crate's `out`, which is written anew each time, and the archive with it
+fn watch_sources(root: &Path) {
+    println!("cargo:rerun-if-changed={}", root.join("crates.txt").display());
+    for entry in root.join("crates").read_dir().expect("the crates are there") {
+        let place = entry.expect("it can be read").path();
+        for part in ["src", "specs", "proofs"].map(|part| place.join(part)).iter().filter(|part| part.exists()) {
+            println!("cargo:rerun-if-changed={}", part.display());
+        }
+    }
 }
 
 fn main() {

@@ -1,5 +1,5 @@
 #![tactic(auto)]
-// The calls with C's calling convention. A slice is passed as a pointer and a length; include/chhayublo.h declares all of it for C.
+// The calls as C sees them: plain numbers and structs. The crate chhayublo_c exports them; a slice is passed as a pointer and a length, and include/chhayublo.h declares all of it for C.
 ghost use Rattle.std.specs.Prelude.{◌≡◌, length};
 ghost use Rattle.gf2.specs.Rows.{part};
 ghost use Rattle.refusals.specs.declared.Outcome.{Outcome};
@@ -73,15 +73,13 @@ pub struct SeenLength {
 }
 
 // the version of these structs and calls: grows with each change of them, together with the header's and the bindings' number
-#[unsafe(no_mangle)]
-pub extern "C" fn chhayublo_version() -> u64
+pub fn chhayublo_version() -> u64
     ensures { result ≡ version }
 {
     1
 }
 
-#[unsafe(no_mangle)]
-pub extern "C" fn chhayublo_row_view(m: &[u64], rows: usize, columns: usize, i: usize) -> SeenRow
+pub fn chhayublo_row_view(m: &[u64], rows: usize, columns: usize, i: usize) -> SeenRow
     ensures { (result ≡ seen_row rows columns i m.now) × (part result.start result.words m.now ≡ row_view rows columns i m.now) }
 {
     let shown = matrix::row_view(m, rows, columns, i);
@@ -110,8 +108,7 @@ fn seen(a: matrix::Answer) -> SeenAnswer
     }
 }
 
-#[unsafe(no_mangle)]
-pub extern "C" fn chhayublo_reduce(
+pub fn chhayublo_reduce(
     m: &mut [u64],
     rows: usize,
     columns: usize,
@@ -123,8 +120,7 @@ pub extern "C" fn chhayublo_reduce(
     seen(matrix::reduce(m, rows, columns, k, room))
 }
 
-#[unsafe(no_mangle)]
-pub extern "C" fn chhayublo_invert(
+pub fn chhayublo_invert(
     m: &[u64],
     rows: usize,
     columns: usize,
@@ -138,8 +134,7 @@ pub extern "C" fn chhayublo_invert(
     outcome.number() as u64
 }
 
-#[unsafe(no_mangle)]
-pub extern "C" fn chhayublo_solve(
+pub fn chhayublo_solve(
     m: &mut [u64],
     rows: usize,
     columns: usize,
@@ -154,8 +149,7 @@ pub extern "C" fn chhayublo_solve(
     seen(packets::solve(m, rows, columns, n, k, image, marks, room))
 }
 
-#[unsafe(no_mangle)]
-pub extern "C" fn chhayublo_contradiction(
+pub fn chhayublo_contradiction(
     m: &[u64],
     rows: usize,
     columns: usize,
@@ -183,8 +177,7 @@ pub extern "C" fn chhayublo_contradiction(
     }
 }
 
-#[unsafe(no_mangle)]
-pub extern "C" fn chhayublo_bundle_read(bytes: &[u8]) -> SeenCount
+pub fn chhayublo_bundle_read(bytes: &[u8]) -> SeenCount
     ensures { result ≡ seen_count (counted_in (meaning both_kinds bytes.now)) }
 {
     let c = bundle::read(bytes);
@@ -224,22 +217,19 @@ fn seen_entry(t: Told) -> SeenEntry
     }
 }
 
-#[unsafe(no_mangle)]
-pub extern "C" fn chhayublo_bundle_entry(bytes: &[u8], i: usize) -> SeenEntry
+pub fn chhayublo_bundle_entry(bytes: &[u8], i: usize) -> SeenEntry
     ensures { result ≡ seen_entry (told_of (find i (meaning both_kinds bytes.now))) }
 {
     seen_entry(bundle::entry(bytes, i))
 }
 
-#[unsafe(no_mangle)]
-pub extern "C" fn chhayublo_bundle_unpack(bytes: &[u8], i: usize, words: &mut [u64]) -> SeenEntry
+pub fn chhayublo_bundle_unpack(bytes: &[u8], i: usize, words: &mut [u64]) -> SeenEntry
     ensures { (result ≡ seen_entry (told_of (lent_entry both_kinds i bytes.now words.old))) × (words.new ≡ unpacked_of (lent_entry both_kinds i bytes.now words.old) words.old) }
 {
     seen_entry(bundle::unpack(bytes, i, words))
 }
 
-#[unsafe(no_mangle)]
-pub extern "C" fn chhayublo_bundle_write(
+pub fn chhayublo_bundle_write(
     kinds: &[u16],
     rows: &[u16],
     columns: &[u16],

@@ -4,7 +4,7 @@ use mathlib.Core.List.{List, [], ◌∷◌}
 use Prim.Native.Nat.{ℕ, zero, suc, ◌+◌, ◌*◌, ◌/◌, ◌%◌, ◌^◌, ◌<◌}
 use native.Mathlib.Nat.{mod-lt, mul-zero, mul-suc, div-add-mod'}
 use native.Mathlib.Omega.{arith}
-use lib.ListN.{length, get_or}
+use lib.ListN.{length}
 use lib.Pow.{pow-add, pow_pos, shr_lt}
 use lib.Arith.{digits_lt, digits_mod, digits_div}
 use Rattle.words.specs.Words.{FitBits, of_digits, digits_of}

@@ -1,13 +1,12 @@
 -- A number written to words: its w lowest words, and each word as the 64 columns from its place on.
-use mathlib.Core.Path.{◌≡◌, refl, sym, ap, ap₂, ◌∙◌, subst}
+use mathlib.Core.Path.{◌≡◌, sym, ap, ap₂, ◌∙◌, subst}
 use mathlib.Core.List.{List, [], ◌∷◌}
 use Prim.Native.Nat.{ℕ, zero, suc, ◌+◌, ◌-◌, ◌*◌, ◌/◌, ◌%◌, ◌^◌, ◌≤◌, ◌<◌}
-use native.Mathlib.Nat.{mod-lt, mul-zero, mul-mod_left, add-zero, div-one, zero-div, div-add-mod'}
+use native.Mathlib.Nat.{mul-zero, mul-mod_left, add-zero, div-one, zero-div}
 use native.Mathlib.Omega.{arith}
 use lib.Bits.{bit_or, or_shifted_r, xor_mod, xor_shr}
-use lib.Dec.{lit<}
 use lib.ListN.{length, get_or}
-use lib.Pow.{low, high, field, mod-pow-add, mod-mod-pow, pow_pos, shl-shr, shr_lt, shr-shr}
+use lib.Pow.{low, high, field, mod-pow-add, mod-mod-pow, shl-shr, shr_lt, shr-shr}
 use Rattle.gf2.specs.Rows.{◌⊕◌}
 use Rattle.words.proofs.Digits.{length_digits, fit_digits, number_digits}
 use Rattle.words.specs.Words.{Fit, value, first_words, window_bits}

@@ -6,7 +6,6 @@ use Prim.Native.Nat.{ℕ, zero, suc, ◌+◌, ◌-◌, ◌*◌, ◌/◌, ◌%◌
 use native.Mathlib.Nat.{zero-add, mul-zero, add-mul, mul_assoc, add_assoc, one-mul, le_of_suc-le-suc, not-suc-le-zero, zero-div, div-one, div-eq_of_lt, div-lt_iff_lt-mul}
 use native.Mathlib.Decide.{dec_lt}
 use native.Mathlib.Omega.{arith}
-use lib.Arith.{digits_lt}
 use lib.Bits.{xor_block, xor_zero_r}
 use lib.Dec.{lit<}
 use lib.ListN.{length, get_or, take, drop, replicate, length-take, drop_of_length-le, get_or-eq_default}

@@ -1,7 +1,6 @@
 -- What the inner call tells, as it is seen.
 use mathlib.Core.Path.{ap, ◌∙◌}
 use Rattle.chhayublo.specs.Calls.{seen_entry}
-use borrow.Author.Rules.{rules}
 use Rattle.chhayublo.proofs.chhayublo_bundle_entry.Goals as goal
 
 pub returns : goal.returns

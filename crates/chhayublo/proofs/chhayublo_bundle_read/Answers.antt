@@ -2,7 +2,6 @@
 use mathlib.Core.Path.{sym, ap, ◌∙◌}
 use Rattle.chhayublo.specs.Calls.{seen_count}
 use Rattle.chhayublo.proofs.BesideRefusal.{count_refused}
-use borrow.Author.Rules.{rules}
 use Rattle.chhayublo.proofs.chhayublo_bundle_read.Goals as goal
 
 pub returns-in-Entries : goal.returns-in-Entries

@@ -1,7 +1,6 @@
 -- What the inner call tells, as it is seen; the words as it leaves them.
 use mathlib.Core.Path.{ap, ◌∙◌}
 use Rattle.chhayublo.specs.Calls.{seen_entry}
-use borrow.Author.Rules.{rules}
 use Rattle.chhayublo.proofs.chhayublo_bundle_unpack.Goals as goal
 
 pub returns : goal.returns

@@ -2,7 +2,6 @@
 use mathlib.Core.Path.{sym, ap, ◌∙◌}
 use Rattle.chhayublo.specs.Calls.{seen_length}
 use Rattle.chhayublo.proofs.BesideRefusal.{length_refused}
-use borrow.Author.Rules.{rules}
 use Rattle.chhayublo.proofs.chhayublo_bundle_write.Goals as goal
 
 pub returns-in-Bytes : goal.returns-in-Bytes

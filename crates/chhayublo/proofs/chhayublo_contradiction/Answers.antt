@@ -2,7 +2,6 @@
 use mathlib.Core.Path.{sym, ap}
 use Rattle.chhayublo.specs.Calls.{seen_verdict}
 use Rattle.chhayublo.proofs.BesideRefusal.{names_refused}
-use borrow.Author.Rules.{rules}
 use Rattle.chhayublo.proofs.chhayublo_contradiction.Goals as goal
 
 pub returns-in-Named : goal.returns-in-Named

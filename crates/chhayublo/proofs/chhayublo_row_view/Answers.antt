@@ -1,7 +1,6 @@
 -- The length of the part that the inner call shows decides.
 use Rattle.chhayublo.proofs.Shown.{view_none, view_some, view_start}
 use native.Mathlib.Omega.{arith}
-use borrow.Author.Rules.{rules}
 use Rattle.chhayublo.proofs.chhayublo_row_view.Goals as goal
 
 pub returns-then-words-eq0 : goal.returns-then-words-eq0

@@ -2,7 +2,6 @@
 use mathlib.Core.Path.{ap}
 use Prim.Native.Nat.{ℕ}
 use Rattle.chhayublo.specs.declared.SeenAnswer.{SeenAnswer}
-use borrow.Author.Rules.{rules}
 use Rattle.chhayublo.proofs.seen.Goals as goal
 
 pub returns : goal.returns

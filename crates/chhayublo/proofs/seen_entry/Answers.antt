@@ -2,7 +2,6 @@
 use mathlib.Core.Path.{sym, ap}
 use Rattle.chhayublo.specs.Calls.{seen_entry}
 use Rattle.chhayublo.proofs.BesideRefusal.{entry_refused}
-use borrow.Author.Rules.{rules}
 use Rattle.chhayublo.proofs.seen_entry.Goals as goal
 
 pub returns-in-Numbers : goal.returns-in-Numbers

@@ -1,24 +1,11 @@
 -- Each row that was passed has the one of the identity: unit_turn.
 use mathlib.Core.Path.{◌≡◌, sym, ◌∙◌}
-use Rattle.words.proofs.Rows.{row_end, length_rows}
+use Rattle.words.proofs.Rows.{length_rows}
 use Rattle.readoff.proofs.Sides.{units_begin, unit_fails, unit_turn}
 use Rattle.words.specs.Words.{rows_of}
 use borrow.Author.Rules.{rules}
 use native.Mathlib.Omega.{arith}
 use Rattle.readoff.proofs.begins_with_identity.Goals as goal
-
-pub loop-i-init : goal.loop-i-init
-loop-i-init c = ((λ j l. absurd (omega arith)), search rules)
-
-pub overflow_mul-i : goal.overflow_mul-i
-overflow_mul-i c =
-    let g = c.args in
-    omega (arith, row_end g.m.now g.w g.n c.loop-i.i (search rules) (search rules), c.well_formed.0.0)
-
-pub is_unit-requires : goal.is_unit-requires
-is_unit-requires c =
-    let g = c.args in
-    (row_end g.m.now g.w g.n c.loop-i.i (search rules) (search rules), search rules, search rules, search rules)
 
 pub returns-then-not-is_unit : goal.returns-then-not-is_unit
 returns-then-not-is_unit c =

@@ -1,29 +1,16 @@
 -- Before a turn the image shows what the rows from i on say.
-use mathlib.Core.Path.{◌≡◌, refl, subst}
-use Prim.Native.Nat.{ℕ, ◌-◌, ◌<◌}
+use mathlib.Core.Path.{refl}
 use lib.ListN.{drop}
 use Rattle.words.specs.Words.{value, rows_of}
-use Rattle.words.proofs.Rows.{row_end}
-use Rattle.readoff.specs.ReadOff.{Shown}
 use Rattle.readoff.proofs.Saying.{rows_none, rows_more, marks_small}
 use borrow.Author.Rules.{rules}
 use Rattle.readoff.proofs.blocks.Goals as goal
-
-pub none_known-requires : goal.none_known-requires
-none_known-requires c = (search rules, search rules, search rules)
 
 pub loop-i-init : goal.loop-i-init
 loop-i-init c =
     let g = c.args in
     let k = c.none_known in
     (rows_none (value g.unknown.now) g.n g.v g.w g.rows g.m.now k.new.image k.new.marks k.ensures, search rules, refl, refl)
-
-pub tell-requires : goal.tell-requires
-tell-requires c =
-    let g = c.args in
-    let l = c.loop-i in
-    let h : l.i - 1 < g.rows = search rules in
-    (row_end g.m.now g.w g.rows (l.i - 1) (search rules) h, search rules, search rules, search rules, search rules, search rules, search rules)
 
 pub loop-i-preserved : goal.loop-i-preserved
 loop-i-preserved c =
@@ -42,11 +29,3 @@ marks_set-requires c =
     let g = c.args in
     let l = c.loop-i in
     marks_small (value g.unknown.now) g.n g.v (drop l.i (rows_of g.w g.rows g.m.now)) l.image l.marks l.invariant.0
-
-pub returns : goal.returns
-returns c =
-    let g = c.args in
-    let l = c.loop-i in
-    let e : l.i ≡ 0 = search rules in
-    let from : ℕ → Type 0 = λ i. Shown (value g.unknown.now) g.n g.v (drop i (rows_of g.w g.rows g.m.now)) l.image l.marks in
-    (subst from e l.invariant.0, c.marks_set.ensures)

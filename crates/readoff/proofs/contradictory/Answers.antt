@@ -1,5 +1,5 @@
 -- The shapes are tested, and the search tells whether a row has its pivot past column n.
-use Rattle.readoff.proofs.Fitting.{held, not_held, rows_held, words_few, columns_held, refuted_found, refuted_missing}
+use Rattle.readoff.proofs.Fitting.{held, not_held, refuted_found, refuted_missing}
 use borrow.Author.Rules.{rules}
 use Rattle.readoff.proofs.contradictory.Goals as goal
 
@@ -7,16 +7,6 @@ pub returns-then-not-holds : goal.returns-then-not-holds
 returns-then-not-holds c =
     let g = c.args in
     λ p. not_held g.rows g.columns g.m.now c.holds.result c.holds.ensures c.if-not-holds.true p.matrix
-
-pub pivot_row-requires : goal.pivot_row-requires
-pivot_row-requires c =
-    let g = c.args in
-    let h = held g.rows g.columns g.m.now c.holds.result c.holds.ensures c.if-not-holds.false in
-    let w = c.per_row in (
-      rows_held g.rows g.columns w.result g.m.now w.ensures h,
-      words_few g.rows g.columns w.result g.m.now w.ensures h,
-      columns_held g.rows g.columns w.result g.m.now w.ensures h,
-    )
 
 pub returns-then-pivot_row-rows : goal.returns-then-pivot_row-rows
 returns-then-pivot_row-rows c =

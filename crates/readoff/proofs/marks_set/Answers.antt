@@ -4,15 +4,6 @@ use borrow.Author.Rules.{rules}
 use native.Mathlib.Omega.{arith}
 use Rattle.readoff.proofs.marks_set.Goals as goal
 
-pub loop-j-init : goal.loop-j-init
-loop-j-init c = (omega arith, search rules, search rules)
-
-pub overflow_cast-sum : goal.overflow_cast-sum
-overflow_cast-sum c = omega (arith, c.requires c.loop-j.j)
-
-pub overflow_add-sum : goal.overflow_add-sum
-overflow_add-sum c = omega (arith, c.requires c.loop-j.j, c.well_formed)
-
 pub loop-j-preserved : goal.loop-j-preserved
 loop-j-preserved c =
     let l = c.loop-j in

@@ -1,11 +1,11 @@
 -- The shapes are tested; then the row that the search finds is cut, or there is none.
 use mathlib.Core.Path.{◌≡◌, refl}
-use Prim.Native.Nat.{◌-◌, ◌≤◌}
+use Prim.Native.Nat.{◌-◌}
 use lib.ListN.{length}
 use native.Mathlib.Omega.{arith}
 use Rattle.words.specs.Words.{words_of}
 use Rattle.words.proofs.Rows.{row_end}
-use Rattle.readoff.proofs.Fitting.{held, not_held, rows_held, words_few, columns_held, names_missing, names_below, names_found, names_are}
+use Rattle.readoff.proofs.Fitting.{held, not_held, rows_held, names_missing, names_below, names_found, names_are}
 use borrow.Author.Rules.{rules}
 use Rattle.readoff.proofs.named.Goals as goal
 
@@ -13,17 +13,6 @@ pub returns-then-not-holds : goal.returns-then-not-holds
 returns-then-not-holds c =
     let g = c.args in
     ((λ p. not_held g.rows g.columns g.m.now c.holds.result c.holds.ensures c.if-not-holds.true p.matrix), refl)
-
-pub pivot_row-i-requires : goal.pivot_row-i-requires
-pivot_row-i-requires c =
-    let g = c.args in
-    let h = held g.rows g.columns g.m.now c.holds.result c.holds.ensures c.if-not-holds.false in
-    let w = c.per_row-w in
-    let s = columns_held g.rows g.columns w.result g.m.now w.ensures h in (
-      rows_held g.rows g.columns w.result g.m.now w.ensures h,
-      words_few g.rows g.columns w.result g.m.now w.ensures h,
-      search rules,
-    )
 
 pub returns-then-i-rows : goal.returns-then-i-rows
 returns-then-i-rows c =
@@ -48,13 +37,6 @@ overflow_mul-i c =
     let below = names_below g.rows g.columns g.a g.e w.result g.m.now w.ensures i.result i.ensures c.if-i-rows.false in
     let all = rows_held g.rows g.columns w.result g.m.now w.ensures h in
     omega (arith, row_end g.m.now w.result g.rows i.result all below, c.well_formed)
-
-pub take_from-requires : goal.take_from-requires
-take_from-requires c =
-    let g = c.args in
-    let h = held g.rows g.columns g.m.now c.holds.result c.holds.ensures c.if-not-holds.false in
-    let l : g.e ≤ g.columns = search rules in
-    (search rules, omega (arith, c.per_row-v.ensures, h.wide), omega (arith, h.wide, l))
 
 pub returns : goal.returns
 returns c =

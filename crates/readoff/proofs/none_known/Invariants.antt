@@ -1,4 +1,4 @@
--- After j turns the first j blocks are none_known.
+-- After j turns the first j blocks are unknown.
 use mathlib.Core.Path.{◌≡◌}
 use Prim.Native.Nat.{◌-◌, ◌≤◌}
 use lib.ListN.{length}

@@ -1,23 +1,12 @@
 -- Each row that was passed has its pivot elsewhere: row_inside.
 use mathlib.Core.Path.{◌≡◌, sym, ◌∙◌}
 use Rattle.words.proofs.Value.{fits_fit}
-use Rattle.words.proofs.Rows.{row_end, length_rows}
+use Rattle.words.proofs.Rows.{length_rows}
 use Rattle.readoff.proofs.Place.{row_inside, passed}
 use Rattle.words.specs.Words.{rows_of}
 use borrow.Author.Rules.{rules}
 use native.Mathlib.Omega.{arith}
 use Rattle.readoff.proofs.pivot_row.Goals as goal
-
-pub loop-i-init : goal.loop-i-init
-loop-i-init c = ((λ j l. absurd (omega arith)), search rules)
-
-pub overflow_mul-i : goal.overflow_mul-i
-overflow_mul-i c =
-    let g = c.args in
-    omega (arith, row_end g.m.now g.w g.rows c.loop-i.i (search rules) (search rules), c.well_formed.0.0)
-
-pub next_one-c-requires : goal.next_one-c-requires
-next_one-c-requires c = let g = c.args in (row_end g.m.now g.w g.rows c.loop-i.i (search rules) (search rules), search rules, search rules)
 
 pub returns-then-stands_in : goal.returns-then-stands_in
 returns-then-stands_in c =

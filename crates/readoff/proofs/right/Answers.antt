@@ -2,32 +2,13 @@
 use mathlib.Core.Path.{◌≡◌, sym, subst}
 use mathlib.Core.List.{List}
 use Prim.Native.Nat.{ℕ, ◌*◌, ◌/◌, ◌^◌}
-use native.Mathlib.Omega.{arith}
 use Rattle.gf2.specs.Rows.{row, part}
 use Rattle.words.specs.Words.{value, rows_of}
-use Rattle.words.proofs.Rows.{row_ends, get_or_rows, length_rows}
+use Rattle.words.proofs.Rows.{get_or_rows, length_rows}
 use Rattle.readoff.proofs.Laid.{Laid}
 use Rattle.readoff.proofs.Sides.{right_turn, right_done}
 use borrow.Author.Rules.{rules}
 use Rattle.readoff.proofs.right.Goals as goal
-
-pub loop-i-init : goal.loop-i-init
-loop-i-init c = ((λ j l. absurd (omega arith)), search rules, search rules)
-
-pub overflow_mul-i : goal.overflow_mul-i
-overflow_mul-i c =
-    let g = c.args in
-    omega (arith, row_ends c.loop-i.i g.n g.v (search rules), c.requires.1, c.well_formed)
-
-pub overflow_mul-i-in-loop-i : goal.overflow_mul-i-in-loop-i
-overflow_mul-i-in-loop-i c =
-    let g = c.args in
-    omega (arith, row_ends c.loop-i.i g.n g.w (search rules), c.requires.0, c.well_formed)
-
-pub take_from-requires : goal.take_from-requires
-take_from-requires c =
-    let g = c.args in
-    (omega (arith, row_ends c.loop-i.i g.n g.v (search rules), c.requires.1, c.loop-i.invariant.2), search rules, search rules)
 
 pub loop-i-preserved : goal.loop-i-preserved
 loop-i-preserved c =

@@ -6,7 +6,7 @@ use lib.Dec.{T}
 use lib.ListN.{length}
 use Rattle.gf2.specs.Inverse.{right_of}
 use Rattle.words.specs.Words.{rows_of, flat}
-use Rattle.readoff.proofs.Fitting.{held, not_held, buffer_right, buffer_wrong, rows_held, words_few, columns_held}
+use Rattle.readoff.proofs.Fitting.{held, not_held, buffer_right, buffer_wrong, rows_held}
 use Rattle.readoff.proofs.right_half.Goals as goal
 
 pub returns-then-number-ne0 : goal.returns-then-number-ne0
@@ -20,16 +20,6 @@ pub returns-then-not-holds : goal.returns-then-not-holds
 returns-then-not-holds c =
     let g = c.args in
     ((λ p. not_held g.n (g.n + g.n) g.m.now c.holds.result c.holds.ensures c.if-not-holds.true p.matrix), refl)
-
-pub begins_with_identity-requires : goal.begins_with_identity-requires
-begins_with_identity-requires c =
-    let g = c.args in
-    let h = held g.n (g.n + g.n) g.m.now c.holds.result c.holds.ensures c.if-not-holds.false in
-    let w = c.per_row-w in (
-      rows_held g.n (g.n + g.n) w.result g.m.now w.ensures h,
-      words_few g.n (g.n + g.n) w.result g.m.now w.ensures h,
-      omega (arith, columns_held g.n (g.n + g.n) w.result g.m.now w.ensures h),
-    )
 
 pub returns-then-not-begins_with_identity : goal.returns-then-not-begins_with_identity
 returns-then-not-begins_with_identity c =

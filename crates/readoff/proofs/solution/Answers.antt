@@ -46,13 +46,6 @@ blocks-requires c =
       l.1,
     )
 
-pub returns-in-Unfit : goal.returns-in-Unfit
-returns-in-Unfit c =
-    let g = c.args in
-    let answer : Reading → Type 0 = λ r. IsRefuted r g.rows g.columns g.n g.m.now in
-    let told = subst answer c.in-Unfit.is c.contradictory-c.ensures in
-    ((λ f. told f.packets), refl, refl)
-
 pub returns-in-Present : goal.returns-in-Present
 returns-in-Present c =
     let g = c.args in

@@ -1,12 +1,10 @@
 -- The row's first one and the next one tell what to store.
 use mathlib.Core.Path.{refl}
 use Prim.Native.Nat.{ℕ, ◌*◌, ◌^◌, ◌<◌}
-use native.Mathlib.Omega.{arith}
 use lib.ListN.{set}
 use Rattle.gf2.specs.Rows.{part}
 use Rattle.words.specs.Words.{value}
 use Rattle.words.proofs.Value.{fits_fit}
-use Rattle.words.proofs.Rows.{row_ends}
 use Rattle.readoff.proofs.Place.{part_narrow}
 use Rattle.readoff.proofs.Telling.{tell_nothing, tell_unknown, tell_known}
 use borrow.Author.Rules.{rules}
@@ -22,12 +20,6 @@ returns-then-n-j c =
     λ R shows. tell_nothing (value g.unknown.now) g.n g.v (64 * g.w) r q.result small q.ensures (search rules) R g.image.now g.marks.now shows
     (search rules)
 
-pub set_unknown-requires : goal.set_unknown-requires
-set_unknown-requires c =
-    let g = c.args in
-    let q = c.next_one-j in
-    (search rules, omega (arith, row_ends q.result g.n g.v (search rules), c.requires.5), search rules)
-
 pub returns-then-next_one-n : goal.returns-then-next_one-n
 returns-then-next_one-n c =
     let g = c.args in
@@ -39,18 +31,6 @@ returns-then-next_one-n c =
     let t = c.set_unknown in
     λ R shows. tell_unknown (value g.unknown.now) g.n g.v (64 * g.w) r q.result small q.ensures (search rules) R g.image.now g.marks.now shows
     (search rules) q₂.result q₂.ensures t.new.image t.new.marks (search rules) (search rules) t.ensures.0 t.ensures.1
-
-pub overflow_mul-j : goal.overflow_mul-j
-overflow_mul-j c =
-    let g = c.args in
-    let q = c.next_one-j in
-    omega (arith, row_ends q.result g.n g.v (search rules), c.requires.5, c.well_formed)
-
-pub take_from-requires : goal.take_from-requires
-take_from-requires c =
-    let g = c.args in
-    let q = c.next_one-j in
-    (omega (arith, row_ends q.result g.n g.v (search rules), c.requires.5), search rules, search rules)
 
 pub returns : goal.returns
 returns c =

@@ -1,6 +1,5 @@
 -- len is rows x w exactly if w divides it and the quotient is rows.
 use Rattle.refusals.proofs.Division.{product_none, product_exact, product_not}
-use borrow.Author.Rules.{rules}
 use Rattle.refusals.proofs.is_product.Goals as goal
 
 pub returns-then-w-eq0 : goal.returns-then-w-eq0

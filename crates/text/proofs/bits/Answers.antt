@@ -1,7 +1,7 @@
 -- One column after the other.
 use mathlib.Core.Path.{refl}
 use Rattle.text.specs.Text.{bits}
-use Rattle.text.proofs.Putting.{put_none, put_column, put_columns, put_length}
+use Rattle.text.proofs.Putting.{put_none, put_column, put_length}
 use borrow.Author.Rules.{rules}
 use Rattle.text.proofs.bits.Goals as goal
 
@@ -11,6 +11,3 @@ loop-c-init c = (search rules, search put_none, refl)
 
 pub loop-c-preserved : goal.loop-c-preserved
 loop-c-preserved c = (search rules, search put_column, search put_length)
-
-pub returns : goal.returns
-returns c = search put_columns

@@ -2,7 +2,6 @@
 use mathlib.Core.Path.{◌∙◌}
 use borrow.Author.Tests.{eq-eqb, ne_eqb}
 use Rattle.wire.specs.Kinds.{order}
-use borrow.Author.Rules.{rules}
 use Rattle.wire.proofs.ordered.Goals as goal
 
 pub returns-then-kind-eq2 : goal.returns-then-kind-eq2

@@ -2,7 +2,6 @@
 use Prim.Native.Nat.{◌^◌, ◌<◌}
 use Rattle.wire.proofs.Orders.{past_none, past_two, past_one}
 use native.Mathlib.Omega.{arith}
-use borrow.Author.Rules.{rules}
 use Rattle.wire.proofs.past.Goals as goal
 
 pub returns-then-s-ge64 : goal.returns-then-s-ge64

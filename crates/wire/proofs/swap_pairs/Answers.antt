@@ -1,6 +1,5 @@
 -- The two halves of each pair do not meet, so that their sum is the pair exchanged.
 use Rattle.wire.proofs.Reversal.{stage_is, stage_fits}
-use borrow.Author.Rules.{rules}
 use Rattle.wire.proofs.swap_pairs.Goals as goal
 
 pub overflow_add-result : goal.overflow_add-result

@@ -1,6 +1,6 @@
 -- A one past the last column stands in the last word of its row: the loop has looked at that word of each row passed. The measure is the rows left.
 use mathlib.Core.Path.{◌≡◌, sym, ap, ◌∙◌}
-use Prim.Native.Nat.{ℕ, ◌≤◌, ◌<◌, ◌+◌, ◌-◌, ◌*◌, ◌/◌, ◌%◌, ◌^◌}
+use Prim.Native.Nat.{ℕ, ◌<◌, ◌+◌, ◌-◌, ◌*◌, ◌/◌, ◌%◌, ◌^◌}
 use native.Mathlib.Omega.{arith}
 use borrow.Author.Count.{below_more, below_none}
 use borrow.Author.Rules.{rules}

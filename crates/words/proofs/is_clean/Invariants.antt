@@ -1,15 +1,7 @@
 -- A one past the last column stands in the last word of its row: the loop has looked at that word of each row passed. The measure is the rows left.
-use mathlib.Core.Path.{◌≡◌, sym, ap, ◌∙◌}
-use Prim.Native.Nat.{ℕ, ◌≤◌, ◌<◌, ◌+◌, ◌-◌, ◌*◌, ◌/◌, ◌%◌, ◌^◌}
-use native.Mathlib.Omega.{arith}
-use borrow.Author.Count.{below_more, below_none}
-use borrow.Author.Rules.{rules}
-use lib.ListN.{get_or}
+use Prim.Native.Nat.{ℕ, ◌≤◌, ◌<◌, ◌-◌, ◌^◌}
 use Rattle.gf2.specs.Rows.{row}
 use Rattle.words.specs.Words.{rows_of}
-use Rattle.words.proofs.Rows.{row_ends, length_rows, last_word_row, last_word_row_full}
-use Rattle.words.proofs.Value.{fits_fit}
-use Rattle.words.proofs.Padding.{narrow_all, narrow_not}
 use Rattle.words.proofs.is_clean.Given as goal
 
 abbrev pub invariant-loop-i : goal.invariant-loop-i

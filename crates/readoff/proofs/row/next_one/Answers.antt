@@ -1,26 +1,12 @@
 -- The next one from q on is always the next one from c on: next_word passes a word without a one, one_here finds it, none_left ends.
 use Prim.Native.Nat.{◌+◌, ◌*◌}
-use native.Mathlib.Omega.{arith}
-use lib.Count.{count_trailing_zeros, trailing_le}
+use lib.Count.{count_trailing_zeros}
 use Rattle.gf2.specs.Rows.{part}
 use Rattle.words.specs.Words.{value}
 use Rattle.words.proofs.Value.{fits_fit}
 use Rattle.readoff.proofs.Columns.{word_from, none_left, next_word, one_here}
 use borrow.Author.Rules.{rules}
 use Rattle.readoff.proofs.row.next_one.Goals as goal
-
-pub loop-q-init : goal.loop-q-init
-loop-q-init c = (search rules, λ n o. o)
-
-pub overflow_cast-result : goal.overflow_cast-result
-overflow_cast-result c =
-    let g = c.args in
-    omega (arith, trailing_le 64 (word_from g.m.now g.at c.loop-q.q))
-
-pub overflow_add-result : goal.overflow_add-result
-overflow_add-result c =
-    let g = c.args in
-    omega (arith, trailing_le 64 (word_from g.m.now g.at c.loop-q.q))
 
 pub returns-then-x-ne0 : goal.returns-then-x-ne0
 returns-then-x-ne0 c =

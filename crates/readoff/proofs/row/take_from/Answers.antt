@@ -1,19 +1,13 @@
 -- After l turns the first l words are the row's columns from c on: word l of a number is its columns from 64 l on.
-use mathlib.Core.Path.{◌≡◌, sym, ap, ◌∙◌}
+use mathlib.Core.Path.{sym, ◌∙◌}
 use Prim.Native.Nat.{◌*◌, ◌/◌, ◌^◌, ◌<◌}
 use native.Mathlib.Omega.{arith}
-use lib.Seq.{paste, paste-zero}
 use Rattle.gf2.specs.Rows.{part}
 use Rattle.words.specs.Words.{value, first_words}
 use Rattle.words.proofs.Parts.{paste_more}
 use Rattle.words.proofs.First.{length_first, get_or_first, window_shift}
 use borrow.Author.Rules.{rules}
 use Rattle.readoff.proofs.row.take_from.Goals as goal
-
-pub loop-l-init : goal.loop-l-init
-loop-l-init c =
-    let g = c.args in
-    (paste-zero g.d.now g.to (first_words g.dw (value (part g.at g.w g.m.now) / 2 ^ g.c)), search rules, search rules)
 
 pub loop-l-preserved : goal.loop-l-preserved
 loop-l-preserved c =
@@ -26,9 +20,3 @@ loop-l-preserved c =
       search rules,
       search rules,
     )
-
-pub returns : goal.returns
-returns c =
-    let g = c.args in
-    let e : c.loop-l.l ≡ g.dw = search rules in
-    c.loop-l.invariant.0 ∙ ap (paste g.d.now g.to (first_words g.dw (value (part g.at g.w g.m.now) / 2 ^ g.c))) e
