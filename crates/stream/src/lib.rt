@@ -113,3 +113,122 @@ pub fn write<W: Write>(stream: &mut W, bytes: &[u8]) -> bool
     }
     true
 }
+
+#[cfg(test)]
+mod tests {
+    use super::*;
+    use std::io;
+
+    // Three bytes, one at a time, and before each an error that passes by itself; or an error that stays, at one of them.
+    #[derive(Drop)]
+    struct Halting {
+        bytes: [u8; 3],
+        at: usize,
+        halted: bool,
+        fails_at: usize,
+    }
+
+    impl Halting {
+        fn new(fails_at: usize) -> Halting {
+            Halting {
+                bytes: [0; 3],
+                at: 0,
+                halted: false,
+                fails_at,
+            }
+        }
+
+        fn halt(&mut self) -> io::Result<()> {
+            self.halted = !self.halted;
+            if self.halted {
+                let passing = if self.at == 1 {
+                    ErrorKind::Interrupted
+                } else {
+                    ErrorKind::WouldBlock
+                };
+                return Err(io::Error::from(passing));
+            }
+            if self.at == self.fails_at {
+                return Err(io::Error::from(ErrorKind::StorageFull));
+            }
+            Ok(())
+        }
+    }
+
+    impl Read for Halting {
+        fn read(&mut self, buf: &mut [u8]) -> io::Result<usize> {
+            self.halt()?;
+            if self.at < 3 && !buf.is_empty() {
+                buf[0] = self.bytes[self.at];
+                self.at += 1;
+                return Ok(1);
+            }
+            Ok(0)
+        }
+    }
+
+    impl Write for Halting {
+        fn write(&mut self, buf: &[u8]) -> io::Result<usize> {
+            self.halt()?;
+            if self.at < 3 && !buf.is_empty() {
+                self.bytes[self.at] = buf[0];
+                self.at += 1;
+                return Ok(1);
+            }
+            Ok(0)
+        }
+
+        fn flush(&mut self) -> io::Result<()> {
+            Ok(())
+        }
+    }
+
+    // the number of bytes, or 99
+    fn number(moved: Moved) -> usize {
+        match moved {
+            Moved::Bytes(n) => n,
+            Moved::Failed => 99,
+        }
+    }
+
+    #[test]
+    fn passing_errors_are_tried_again(rt: HostRuntime) {
+        let mut stream = Halting::new(9);
+        assert!(rt; write(&mut stream, b"abc"));
+        assert_eq!(rt; stream.bytes, *b"abc");
+        stream.at = 0;
+        let mut buffer = [0u8; 8];
+        assert_eq!(rt; number(read(&mut stream, &mut buffer)), 3);
+        assert_eq!(rt; buffer, *b"abc\0\0\0\0\0");
+    }
+
+    #[test]
+    fn other_errors_are_told(rt: HostRuntime) {
+        let mut stream = Halting::new(2);
+        assert!(rt; !write(&mut stream, b"abc"));
+        assert_eq!(rt; stream.bytes, *b"ab\0");
+        stream.at = 0;
+        stream.halted = false;
+        assert_eq!(rt; number(read(&mut stream, &mut [0u8; 8])), 99);
+    }
+
+    // never has anything, and counts how often it is asked
+    #[derive(Drop)]
+    struct Waiting {
+        asked: u64,
+    }
+
+    impl Read for Waiting {
+        fn read(&mut self, _buf: &mut [u8]) -> io::Result<usize> {
+            self.asked = self.asked.wrapping_add(1);
+            Err(io::Error::from(ErrorKind::WouldBlock))
+        }
+    }
+
+    #[test]
+    fn tries_are_bounded(rt: HostRuntime) {
+        let mut stream = Waiting { asked: 0 };
+        assert_eq!(rt; number(read(&mut stream, &mut [0u8; 8])), 99);
+        assert_eq!(rt; stream.asked, 4000001);
+    }
+}
