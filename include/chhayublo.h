@@ -1,5 +1,5 @@
 /*
- * Chhayublo: dense linear algebra over GF(2), for C11 and C++17 on x86-64 Linux (System V ABI), level x86-64-v2 and above.
+ * Chhayublo: dense linear algebra over GF(2), for C11 and C++17 on x86-64 Linux (System V ABI).
  * Link with target/staticlib/libchhayublo.a, which `./archive` writes. It needs memcpy and memset from elsewhere
  * and nothing else, keeps no state between calls and allocates nothing.
  *
@@ -9,8 +9,8 @@
  *
  * THREADS AND STACK
  *   Calls may run side by side in threads, as long as no buffer that one of them may write overlaps a buffer of another; each
- *   needs a room of its own. Reduction, inverse, solving and contradiction take 4.2 to 5.4 KB of stack whatever the size of the
- *   matrix, as measured on the archive that the toolchain rattle-kit-5b compiled; the other calls take less.
+ *   needs a room of its own. Reduction, inverse, solving and contradiction take 4.2 to 6.5 KB of stack whatever the size of the
+ *   matrix, as measured on the archive; the other calls take less.
  *
  * MATRICES
  *   Up to 512 rows, none included, and 1 to 1024 columns. W = chhayublo_words(columns) words of 64 bits store a row, and the
