@@ -17,7 +17,7 @@ use Rattle.gf2.proofs.Bits.{eq_of_xor}
 use Rattle.gf2.proofs.Space.{combine_zero, space_ind, same_refl, same_trans, same_narrow}
 use Rattle.gf2.proofs.Pivot.{pivot_unique, pivot_narrow, cut_zero}
 use Rattle.gf2.proofs.Products.{tabulate_row, tabulate_length}
-use Rattle.gf2.proofs.Additions.{windows_end}
+use Rattle.gf2.proofs.Additions.{windows_end, window_starts}
 use Rattle.method.specs.Stage.{Upto, Stage, Unset}
 use Rattle.method.proofs.Upto.{upto_past}
 use Rattle.method.proofs.Done.{stage_start, stage_left, form_done, pivots_done, rank_done, record_done}
@@ -209,6 +209,10 @@ pub steps_small : (j k b : ℕ) → 0 < k → j * k < b → j < b
 steps_small j zero b h l = absurd (omega arith)
 steps_small j (suc k) b h l = omega (arith, mul-suc j k)
 
+-- a window starts left of the last column
+pub starts_inside : {k columns j end : ℕ} → 0 < k → end ≡ windows k columns → j < end → j * k < columns
+starts_inside {k} {columns} {j} least e l = window_starts k columns j least (omega arith)
+
 pub pow_small : (r : ℕ) → r ≤ 8 → 2 ^ r ≤ 256
 pow_small r h = pow_mono {i = r} {j = 8} h
 
@@ -256,6 +260,10 @@ room_drop w n b x y = drop_more (n * w) ((n + b) * w) x y (mul-le-mul_right w (o
 pub table_small : (r : ℕ) → r ≤ 8 → table_additions r ≤ 255
 unfolding table_additions
 table_small r h = omega (arith, pow_small r h)
+
+-- the table of a window of at most k <= 8 columns takes few additions
+pub few_additions : {added r kw k : ℕ} → added ≡ table_additions r → r ≤ kw → kw ≤ k → k ≤ 8 → added ≤ 255
+few_additions {added} {r} e few less most = omega (arith, e, table_small r (omega arith))
 
 -- the same of a window as over two slices
 pub room_applies : {w n c k base r len : ℕ} {m h o cols h₁ : List ℕ} → Sizes w (n + 2 ^ k) len → length m ≡ len → c + k ≤ w * 64 → k ≤ 8

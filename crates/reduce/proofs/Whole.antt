@@ -3,13 +3,13 @@ use Rattle.std.proofs.Common.{◌≡◌, ℕ, ◌<◌, ◌≤◌, List, [], ◌+
 use mathlib.Core.Logic.{◌⊎◌, inl, inr}
 use borrow.Author.Tests.{lt-ltb, le-ltb}
 use Rattle.std.proofs.lemmas.Bool.{cases_lt}
-use Rattle.std.specs.Io.KnownBytes.{Appends, Consumes, IsAtEnd}
+use Rattle.std.specs.Prelude.{IfSome}
+use Rattle.std.specs.Io.KnownBytes.{Consumes, IsAtEnd}
 use Rattle.refusals.specs.declared.Refusal.TheVariants.{BundleSize}
 use Rattle.refusals.specs.declared.Outcome.TheVariants.{Refused}
 use Rattle.bundle.specs.Bundle.{bundle_order, bundle_checks, both_kinds, entries_of, meant_by, meaning}
 use Rattle.desk.specs.Desk.{refused_text}
 use Rattle.reduce.specs.Report.{meaning_text, report}
-use Rattle.reduce.specs.Streams.{Reported}
 
 long_refused : (b : List ℕ) → 65535 < length b → bundle_checks both_kinds b ≡ Refused BundleSize
 unfolding bundle_order
@@ -26,13 +26,14 @@ same_report bytes front rest e (inl none) = ap report (sym (e ∙ ap (λ l. fron
 same_report bytes front rest e (inr long) =
     report_long front long ∙ sym (report_long bytes (omega (arith, ap length e, length-append front rest)))
 
-pub reported : (old new before after : Option (List ℕ)) (n : ℕ) (buffer : List ℕ) → length buffer ≡ 65536 → n ≤ length buffer → Consumes old new (take n buffer)
-    → (n < length buffer → IsAtEnd new) → Appends before after (report (take n buffer)) → Reported old before after
-reported None new before after n buffer size fits came end put = tt
-reported (Some bytes) None before after n buffer size fits came end put = absurd came
-reported (Some bytes) (Some rest) before after n buffer size fits came end put =
-    subst (Appends before after) (same_report bytes (take n buffer) rest came (all_or_long (cases_lt n (length buffer)))) put
+-- what holds of the report of what was read into a buffer of 65,536 bytes holds of the report of the whole input
+pub of_whole : (P : List ℕ → Type 0) (old new : Option (List ℕ)) (n len : ℕ) (buffer : List ℕ) → length buffer ≡ len → len ≡ 65536 → n ≤ len
+    → Consumes old new (take n buffer) × (n < length buffer → IsAtEnd new) → P (report (take n buffer)) → IfSome old (λ bytes. P (report bytes))
+of_whole P None new n len buffer same size fits came put = tt
+of_whole P (Some bytes) None n len buffer same size fits came put = absurd came.0
+of_whole P (Some bytes) (Some rest) n len buffer same size fits came put =
+    subst P (same_report bytes (take n buffer) rest came.0 (all_or_long (cases_lt n (length buffer)))) put
   where
     all_or_long : (n < length buffer) ⊎ (length buffer ≤ n) → (rest ≡ []) ⊎ (65535 < length (take n buffer))
-    all_or_long (inl few) = inl (end few)
-    all_or_long (inr full) = inr (omega (arith, length-take-le n buffer fits))
+    all_or_long (inl few) = inl (came.1 few)
+    all_or_long (inr full) = inr (omega (arith, size, same, length-take-le n buffer (omega (arith, same))))

@@ -3,10 +3,11 @@
 // The bundle comes from standard input, and the report goes to standard output; a stream that fails is told on standard error.
 mod report;
 
-ghost use Rattle.std.specs.Prelude.{◌≡◌, true};
+ghost use Rattle.std.specs.Prelude.{◌≡◌, true, false};
 ghost use Rattle.std.specs.Io.KnownBytes.{Keeps, Appends};
+ghost use Rattle.stream.specs.Stream.{AppendsFront};
 ghost use Rattle.reduce.specs.Report.{report};
-ghost use Rattle.reduce.specs.Streams.{Reported};
+ghost use Rattle.reduce.specs.Streams.{Reported, ReportBegun};
 ghost use Rattle.reduce.specs.declared.Ended.TheVariants.{Written, NotRead, NotWritten};
 
 use std::io::{Read, Write};
@@ -21,7 +22,8 @@ enum Ended {
 
 // writes the report of these bytes; answers whether the stream took it
 fn answer<W: Write>(bundle: &[u8], output: &mut W) -> bool
-    ensures { result ≡ true → Appends (W.contents output.old) (W.contents output.new) (report bundle.now) }
+    ensures whole { result ≡ true → Appends (W.contents output.old) (W.contents output.new) (report bundle.now) }
+    ensures begun { result ≡ false → AppendsFront (W.contents output.old) (W.contents output.new) (report bundle.now) }
 {
     // 512 rows of 16 words; a table of 16 such rows; no report is longer (proofs/Short)
     let mut words = [0u64; 8192];
@@ -34,6 +36,7 @@ fn answer<W: Write>(bundle: &[u8], output: &mut W) -> bool
 // reads a bundle, and writes its report; where reading fails, nothing
 fn run<R: Read, W: Write>(input: &mut R, output: &mut W) -> Ended
     ensures written { result ≡ Written → Reported (R.remaining input.old) (W.contents output.old) (W.contents output.new) }
+    ensures not_written { result ≡ NotWritten → ReportBegun (R.remaining input.old) (W.contents output.old) (W.contents output.new) }
     ensures not_read { result ≡ NotRead → Keeps (W.contents output.old) (W.contents output.new) }
 {
     // a byte more than a bundle can have: what fills the buffer is too long

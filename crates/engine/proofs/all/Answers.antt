@@ -1,21 +1,13 @@
 -- Each turn does one window; after the last all columns are done.
 use mathlib.Core.Path.{◌≡◌, refl, sym, ◌∙◌}
-use Prim.Native.Nat.{ℕ, ◌*◌, ◌≤◌, ◌<◌}
+use Prim.Native.Nat.{ℕ, ◌≤◌}
 use native.Mathlib.Omega.{arith}
 use lib.ListN.{length-replicate}
-use Rattle.gf2.specs.Additions.{windows, table_additions}
-use Rattle.gf2.proofs.Additions.{window_starts}
+use Rattle.gf2.specs.Additions.{windows}
 use Rattle.words.proofs.Rows.{length_rows}
 use Rattle.engine.proofs.Fitting.{table_fits, rows_fit}
-use Rattle.engine.proofs.Windows.{passed_start, passed_next, finished, table_room, steps_small, table_small, table_rest}
+use Rattle.engine.proofs.Windows.{passed_start, passed_next, finished, table_room, steps_small, few_additions, starts_inside, table_rest}
 use Rattle.engine.proofs.all.Goals as goal
-
--- a window starts left of the last column
-starts : {k columns j end : ℕ} → 0 < k → end ≡ windows k columns → j < end → j * k < columns
-starts {k} {columns} {j} least e l = window_starts k columns j least (omega arith)
-
-few_additions : {additions rank kw k : ℕ} → additions ≡ table_additions rank → rank ≤ kw → kw ≤ k → k ≤ 8 → additions ≤ 255
-few_additions {additions} {rank} e few less most = omega (arith, e, table_small rank (omega arith))
 
 pub window_count-end-requires : goal.window_count-end-requires
 window_count-end-requires c = let f = c.requires.1 in (f.table.window.least, f.table.window.most, f.shape.sized.wide)
@@ -27,10 +19,10 @@ loop-j-init c =
     (passed_start p.1.shape.listed p.2, omega arith, omega arith, refl, refl, refl, refl, bytes, bytes, refl)
 
 pub overflow_mul-c : goal.overflow_mul-c
-overflow_mul-c c = omega (arith, starts c.requires.1.table.window.least c.window_count-end.ensures c.loop-j-test.true, c.requires.1.shape.sized.wide)
+overflow_mul-c c = omega (arith, starts_inside c.requires.1.table.window.least c.window_count-end.ensures c.loop-j-test.true, c.requires.1.shape.sized.wide)
 
 pub width-kw-requires : goal.width-kw-requires
-width-kw-requires c = (c.requires.1.table.window.least, starts c.requires.1.table.window.least c.window_count-end.ensures c.loop-j-test.true)
+width-kw-requires c = (c.requires.1.table.window.least, starts_inside c.requires.1.table.window.least c.window_count-end.ensures c.loop-j-test.true)
 
 pub slice_bounds-window-end : goal.slice_bounds-window-end
 slice_bounds-window-end c = sym c.loop-j.invariant.7
@@ -61,8 +53,8 @@ window-p-requires c =
 
 pub overflow_add-additions : goal.overflow_add-additions
 overflow_add-additions c =
-    let few = steps_small c.loop-j.j c.args.k c.args.columns c.requires.1.table.window.least (starts c.requires.1.table.window.least c.window_count-end.ensures c.loop-j-test.true) in
-    omega (arith, c.loop-j.invariant.1, (few_additions c.window-p.ensures.3 c.window-p.ensures.0.few c.width-kw.ensures.1 c.requires.1.table.window.most), few, c.requires.1.shape.sized.wide)
+    let few = steps_small c.loop-j.j c.args.k c.args.columns c.requires.1.table.window.least (starts_inside c.requires.1.table.window.least c.window_count-end.ensures c.loop-j-test.true) in
+    omega (arith, c.loop-j.invariant.1, few_additions c.window-p.ensures.3 c.window-p.ensures.0.few c.width-kw.ensures.1 c.requires.1.table.window.most, few, c.requires.1.shape.sized.wide)
 
 pub overflow_add-rank : goal.overflow_add-rank
 overflow_add-rank c =
@@ -80,7 +72,7 @@ loop-j-preserved c =
     let v = l.invariant in
     let rest = table_rest c.width-kw.result g.k g.w f.new.t l.t h.1 f.ensures.2 in (
       passed_next h.1 h.3 (λ i. rw c.requires.0 (c.requires.1.shape.clean i)) v.0 f.ensures.0 f.ensures.3,
-      omega (arith, v.1, (few_additions c.window-p.ensures.3 c.window-p.ensures.0.few c.width-kw.ensures.1 c.requires.1.table.window.most)),
+      omega (arith, v.1, few_additions c.window-p.ensures.3 c.window-p.ensures.0.few c.width-kw.ensures.1 c.requires.1.table.window.most),
       omega (arith, c.loop-j-test.true),
       f.ensures.1 ∙ v.3,
       rest ∙ v.4,

@@ -3,6 +3,7 @@ use Rattle.std.proofs.Common.{rules, ℕ, ◌≤◌, length, replicate, sym, sub
 use Rattle.std.proofs.lemmas.List.{length-replicate}
 use lib.Dec.{lit≤}
 use Rattle.std.specs.Io.KnownBytes.{Appends}
+use Rattle.stream.specs.Stream.{AppendsFront}
 use Rattle.reduce.proofs.Short.{report_ends, report_front}
 use Rattle.reduce.proofs.answer.Goals as goal
 
@@ -28,5 +29,8 @@ slice_bounds-out-end g c = report_ends _ _ c.whole-end.new.out c.whole-end.resul
 pub slice_bounds-write-end : goal.slice_bounds-write-end
 slice_bounds-write-end g c = sym (length-take-le c.whole-end.result c.whole-end.new.out (report_ends _ _ c.whole-end.new.out c.whole-end.result c.whole-end.ensures.0 c.whole-end.ensures.1))
 
-pub returns : goal.returns
-returns g c taken = subst (Appends _ _) (report_front _ _ c.whole-end.new.out c.whole-end.result c.whole-end.ensures.0 c.whole-end.ensures.1) (c.write.ensures.whole taken)
+pub returns-clause-whole : goal.returns-clause-whole
+returns-clause-whole g c taken = subst (Appends _ _) (report_front _ _ c.whole-end.new.out c.whole-end.result c.whole-end.ensures.0 c.whole-end.ensures.1) (c.write.ensures.whole taken)
+
+pub returns-clause-begun : goal.returns-clause-begun
+returns-clause-begun g c broken = subst (AppendsFront _ _) (report_front _ _ c.whole-end.new.out c.whole-end.result c.whole-end.ensures.0 c.whole-end.ensures.1) (c.write.ensures.begun broken)
