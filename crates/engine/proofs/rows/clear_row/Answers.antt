@@ -4,7 +4,8 @@ use mathlib.Core.List.{List}
 use Prim.Native.Nat.{ℕ, ◌*◌}
 use lib.ListN.{drop}
 use Rattle.gf2.specs.Rows.{bit, row}
-use Rattle.words.specs.Words.{rows_of, xors}
+use borrow.Author.Rules.{rules}
+use Rattle.words.specs.Words.{rows_of, xors, Fit}
 use Rattle.words.proofs.Parts.{length_xors, length_part}
 use Rattle.words.proofs.Value.{fits_fit}
 use Rattle.words.proofs.Rows.{row_ends, get_or_rows, rows_added, rest_paste, clear_one, clear_none}
@@ -27,7 +28,7 @@ returns-then-bit_at-eq1 c =
     let g = c.args in
     let m = g.m.now in
     let L : List ℕ = rows_of g.w g.n m in
-    let f = fits_fit m c.slice_known-1.given in
+    let f : Fit m = fits_fit m (search rules) in
     let e = c.add_within.ensures in
     let one : bit g.c (row L g.i) ≡ 1 = ap (bit g.c) (get_or_rows g.w g.n m g.i c.requires.3) ∙ sym c.bit_at.ensures ∙ c.if-bit_at-eq1.true in
     let words = length_xors (row_words g.i g.w m) (row_words g.p g.w m) ∙ length_part (g.i * g.w) g.w m (omega (arith, row_ends g.i g.n g.w c.requires.3, c.requires.0)) in
