@@ -9,7 +9,7 @@
  *
  * THREADS AND STACK
  *   Calls may run side by side in threads, as long as no buffer that one of them may write overlaps a buffer of another; each
- *   needs a room of its own. Reduction, inverse, solving and contradiction take 4.2 to 6.5 KB of stack whatever the size of the
+ *   needs a room of its own. Reduction, inverse, solving and contradiction take 3.6 to 7.9 KB of stack whatever the size of the
  *   matrix, as measured on the archive; the other calls take less.
  *
  * MATRICES

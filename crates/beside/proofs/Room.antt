@@ -1,26 +1,31 @@
 -- What a caller knows of the room: after the call, and when the matrix in it has been cleared too.
-use mathlib.Core.Path.{◌≡◌, sym, ap, ap₂, ◌∙◌, subst}
-use mathlib.Core.Bool.{Bool, true, false}
+use mathlib.Core.Path.{◌≡◌, refl, sym, ap, ap₂, ◌∙◌, subst}
 use mathlib.Core.List.{List, ◌++◌, append_assoc}
 use Prim.Native.Nat.{ℕ, ◌+◌, ◌*◌, ◌^◌, ◌≤◌, ◌<◌, min}
 use native.Mathlib.Nat.{zero-add, add-mul, min-eq_left}
 use native.Mathlib.Omega.{arith}
 use lib.ListN.{length, drop, replicate, length-replicate, replicate-append-replicate}
 use lib.Seq.{take_all}
+use Rattle.std.specs.Prelude.{Result, Ok, Err, IsOk}
 use Rattle.gf2.specs.Rows.{row}
 use Rattle.gf2.specs.Inverse.{adjoin}
 use Rattle.gf2.proofs.Adjoin.{adjoin_narrow}
 use Rattle.gf2.proofs.Space.{same_narrow}
 use Rattle.words.specs.Words.{words_of, rows_of, Clean, zeroed}
 use Rattle.words.proofs.Rows.{length_rows}
+use Rattle.refusals.specs.declared.Unfit.{Unfit}
 use Rattle.beside.specs.Beside.{FitsBeside, Beside, BesideReduced}
 
 -- ---- where the shapes fit
 
-pub room_reduced : (rows columns k : ℕ) (m room room₁ : List ℕ) → FitsBeside rows columns k m (length room) → (done : Bool) → BesideReduced done rows columns k m room room₁
+pub room_reduced : (rows columns k : ℕ) (m room room₁ : List ℕ) → FitsBeside rows columns k m (length room) → (r : Result (Unit {0}) Unfit) → BesideReduced r rows columns k m room room₁
     → Beside rows columns k m room room₁
-room_reduced rows columns k m room room₁ fits true b = b.1
-room_reduced rows columns k m room room₁ fits false b = absurd (b.0 fits)
+room_reduced rows columns k m room room₁ fits (Ok t) b = b.1
+room_reduced rows columns k m room room₁ fits (Err u) b = absurd (b.0 fits)
+
+pub room_taken : (rows columns k : ℕ) (m room room₁ : List ℕ) → FitsBeside rows columns k m (length room) → (r : Result (Unit {0}) Unfit) → BesideReduced r rows columns k m room room₁ → IsOk r
+room_taken rows columns k m room room₁ fits (Ok t) b = refl
+room_taken rows columns k m room room₁ fits (Err u) b = absurd (b.0 fits)
 
 -- the rows in the room are no wider than matrix and identity together
 pub room_clean : (rows columns k : ℕ) (m room room₁ : List ℕ) → Clean rows columns m → Beside rows columns k m room room₁ → Clean rows (columns + rows) room₁

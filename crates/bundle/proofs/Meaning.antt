@@ -1,25 +1,29 @@
 -- The answers, by what a bundle means: refused, or the entry that was asked for.
 use mathlib.Core.Path.{◌≡◌, refl, sym, ap, ◌∙◌, subst}
-use mathlib.Core.Bool.{Bool}
+use mathlib.Core.Bool.{Bool, true, false}
 use mathlib.Core.List.{List}
-use mathlib.Core.Logic.{◌≢◌}
-use Prim.Native.Nat.{ℕ, zero, suc, ◌+◌, ◌*◌, ◌<◌, ◌≤◌}
+use Prim.Native.Nat.{ℕ, zero, suc, ◌+◌, ◌<◌, ◌≤◌}
 use native.Mathlib.Omega.{arith}
-use lib.ListN.{length}
-use borrow.Author.Tests.{eq-eqb, ne_eqb}
+use lib.ListN.{length, get_or}
+use mir.Val.{Fits}
+use mir.Syntax.{w8}
+use borrow.Author.Tests.{eq-eqb, leb-true, leb-false}
+use lib.Dec.{leb}
+use Rattle.std.specs.Prelude.{Ok, Err}
 use Rattle.wire.specs.Bytes.{Bytes}
 use Rattle.wire.specs.Kinds.{words_at}
 use Rattle.refusals.specs.declared.Refusal.{Refusal}
-use Rattle.refusals.specs.declared.Refusal.TheVariants.{NotBelow, WrongLength}
-use Rattle.refusals.specs.declared.Outcome.{Outcome}
-use Rattle.refusals.specs.declared.Outcome.TheVariants.{Done, Refused}
-use Rattle.bundle.specs.Bundle.{count_of, kind_at, rows_at, columns_at, offset_at, words_in, bundle_checks, entry_at, entries_from, entries_of, meant_by, meaning}
-use Rattle.bundle.specs.Answers.{counted_in, Lookup, found, missing, entry_in, find, told_of, fitting, lent_for, lent_entry, unpacked_of}
-use Rattle.bundle.specs.declared.Counted.TheVariants as counted
-use Rattle.bundle.specs.declared.Told.{Told}
-use Rattle.bundle.specs.declared.Told.TheVariants as told
+use Rattle.refusals.specs.declared.Refusal.TheVariants.{NotBelow}
+use Rattle.refusals.specs.Outcome.{Outcome, refuse_if}
+use Rattle.refusals.specs.Checks.{not_below}
+use Rattle.refusals.proofs.Passed.{if_done}
+use Rattle.bundle.specs.Bundle.{body_words, head_bytes, count_of, kind_at, rows_at, columns_at, offset_at, words_in, bundle_checks, entry_at, entries_from, entries_of, meant_by, meaning}
+use Rattle.bundle.specs.Answers.{counted_in, Lookup, entry_in, find, told_of, fitting, lent_for, lent_entry, unpacked_of}
+use Rattle.bundle.specs.Steps.{head_at, Found}
+use Rattle.bundle.specs.declared.Numbers.{Numbers}
+use Rattle.bundle.specs.declared.ruled.Head.{Head}
 use Rattle.bundle.proofs.Passing.{accepted, Good, good}
-use Rattle.bundle.proofs.Bodies.{flat_matrix}
+use Rattle.bundle.proofs.Bodies.{two_bytes, flat_matrix}
 
 -- ---- n entries from entry j on
 
@@ -28,17 +32,17 @@ unfolding entries_from
 count_from zero j b = refl
 count_from (suc n) j b = ap suc (count_from n (j + 1) b)
 
-pub entry_from : (n i j : ℕ) (b : List ℕ) → i < n → entry_in i (entries_from n j b) ≡ found (entry_at (j + i) b)
+pub entry_from : (n i j : ℕ) (b : List ℕ) → i < n → entry_in i (entries_from n j b) ≡ Ok (entry_at (j + i) b)
 unfolding entry_in entries_from
 entry_from zero i j b h = absurd (omega arith)
 entry_from (suc n) zero j b h =
     let z : j ≡ j + 0 = omega arith in
-    ap (λ (k : ℕ). found (entry_at k b)) z
+    ap (λ (k : ℕ). Ok (entry_at k b)) z
 entry_from (suc n) (suc i) j b h =
     let z : j + 1 + i ≡ j + suc i = omega arith in
-    entry_from n i (j + 1) b (omega arith) ∙ ap (λ (k : ℕ). found (entry_at k b)) z
+    entry_from n i (j + 1) b (omega arith) ∙ ap (λ (k : ℕ). Ok (entry_at k b)) z
 
-pub entry_past : (n i j : ℕ) (b : List ℕ) → n ≤ i → entry_in i (entries_from n j b) ≡ missing NotBelow
+pub entry_past : (n i j : ℕ) (b : List ℕ) → n ≤ i → entry_in i (entries_from n j b) ≡ Err NotBelow
 unfolding entry_in entries_from
 entry_past zero zero j b h = refl
 entry_past zero (suc i) j b h = refl
@@ -52,96 +56,78 @@ module _ (rule : ℕ → Outcome) (b : List ℕ) (o : Outcome) (eo : o ≡ bundl
   unfolding meaning
   meant v e = ap (λ (x : Outcome). meant_by x (entries_of b)) (sym eo ∙ e)
 
-  pub counted_refused : (r : Refusal) → o ≡ Refused r → counted.Refused r ≡ counted_in (meaning rule b)
-  unfolding counted_in
-  counted_refused r e = sym (ap counted_in (meant (Refused r) e))
-
-  pub find_refused : (i : ℕ) (r : Refusal) → o ≡ Refused r → find i (meaning rule b) ≡ missing r
+  pub find_refused : (i : ℕ) (r : Refusal) → o ≡ Err r → find i (meaning rule b) ≡ Err r
   unfolding find
-  find_refused i r e = ap (find i) (meant (Refused r) e)
+  find_refused i r e = ap (find i) (meant (Err r) e)
 
-  module _ (e : o ≡ Done) where
+  module _ (e : o ≡ Ok tt) where
     pub two_bytes_long : 2 ≤ length b
     two_bytes_long = (accepted rule b (sym eo ∙ e)).long
 
     module _ (n : ℕ) (en : n ≡ count_of b) where
-      pub counted_entries : counted.Entries n ≡ counted_in (meaning rule b)
+      pub counted_entries : Ok n ≡ counted_in (meaning rule b)
       unfolding counted_in entries_of
-      counted_entries = ap counted.Entries (en ∙ sym (count_from (count_of b) 0 b)) ∙ sym (ap counted_in (meant Done e))
+      counted_entries = ap Ok (en ∙ sym (count_from (count_of b) 0 b)) ∙ sym (ap counted_in (meant (Ok tt) e))
 
-      pub find_past : (i : ℕ) → n ≤ i → find i (meaning rule b) ≡ missing NotBelow
+      pub find_past : (i : ℕ) → n ≤ i → find i (meaning rule b) ≡ Err NotBelow
       unfolding find entries_of
-      find_past i h = ap (find i) (meant Done e) ∙ entry_past (count_of b) i 0 b (subst (λ (x : ℕ). x ≤ i) en h)
+      find_past i h = ap (find i) (meant (Ok tt) e) ∙ entry_past (count_of b) i 0 b (subst (λ (x : ℕ). x ≤ i) en h)
 
-      pub find_entry : (i : ℕ) → i < n → find i (meaning rule b) ≡ found (entry_at i b)
+      pub find_entry : (i : ℕ) → i < n → find i (meaning rule b) ≡ Ok (entry_at i b)
       unfolding find entries_of
       find_entry i h =
           let z : 0 + i ≡ i = omega arith in
-          ap (find i) (meant Done e) ∙ entry_from (count_of b) i 0 b (subst (λ (x : ℕ). i < x) en h) ∙ ap (λ (k : ℕ). found (entry_at k b)) z
+          ap (find i) (meant (Ok tt) e) ∙ entry_from (count_of b) i 0 b (subst (λ (x : ℕ). i < x) en h) ∙ ap (λ (k : ℕ). Ok (entry_at k b)) z
 
       pub good_entry : (i : ℕ) → i < n → Good rule i b
       good_entry i h = good rule i b (sym eo ∙ e) (subst (λ (x : ℕ). i < x) en h)
 
--- ---- what is told of it
+      -- q is the outcome of looking whether there is an entry i
+      module _ (i : ℕ) (q : Outcome) (eq : q ≡ not_below i n) where
+        pub none_there : {r : Refusal} → q ≡ Err r → find i (meaning rule b) ≡ Err r
+        unfolding not_below
+        none_there {r} z = go (leb n i) refl (sym eq ∙ z)
+          where
+            go : (t : Bool) → leb n i ≡ t → refuse_if t NotBelow ≡ Err r → find i (meaning rule b) ≡ Err r
+            go true l f = find_past i (leb-true n i l) ∙ cc
+            go false l f = cc
 
-pub told_missing : (F : Lookup) (r : Refusal) → F ≡ missing r → told.Refused r ≡ told_of F
-unfolding told_of
-told_missing F r e = sym (ap told_of e)
+        one_there : q ≡ Ok tt → i < n
+        unfolding not_below
+        one_there z = leb-false n i (if_done (leb n i) NotBelow (sym eq ∙ z))
 
-pub told_found : (F : Lookup) (t : Told) (i : ℕ) (b : List ℕ) → t ≡ told.Numbers (kind_at i b) (rows_at i b) (columns_at i b) → F ≡ found (entry_at i b) → t ≡ told_of F
-unfolding told_of entry_at
-told_found F t i b et e = et ∙ sym (ap told_of e)
+        pub head_inside : q ≡ Ok tt → head_bytes (i + 1) ≤ length b
+        head_inside z = (good_entry i (one_there z)).head
 
--- ---- words lent for it
+        pub is_found : {h : Head} → q ≡ Ok tt → h ≡ head_at i b → Found rule i b h
+        is_found z eh = record { there = find_entry i (one_there z); placed = (good_entry i (one_there z)).entry; same = eh }
 
-module _ (n : ℕ) (F : Lookup) where
-  pub lent_missing : (r : Refusal) → F ≡ missing r → lent_for n F ≡ missing r
-  unfolding lent_for
-  lent_missing r e = ap (lent_for n) e
+-- ---- h is what the contents say of entry i
 
-  module _ (i w : ℕ) (b : List ℕ) (e : F ≡ found (entry_at i b)) (ew : w ≡ words_in i b) where
-    pub lent_unfit : n ≢ w → lent_for n F ≡ missing WrongLength
-    unfolding lent_for entry_at
-    lent_unfit ne = ap (lent_for n) e ∙ ap (λ (t : Bool). fitting t (entry_at i b)) (ne_eqb n (words_in i b) (λ z. ne (z ∙ sym ew)))
+module _ {rule : ℕ → Outcome} {i : ℕ} {b : List ℕ} {h : Head} (F : Found rule i b h) where
+  -- each of its numbers has two bytes
+  pub numbers_small : ((j : ℕ) → Fits w8 (get_or b j 0)) → (h.kind < 65536) × (h.rows < 65536) × (h.columns < 65536)
+  numbers_small f =
+      let k : h.kind ≡ kind_at i b = ap (λ (x : Head). x.kind) F.same in
+      let r : h.rows ≡ rows_at i b = ap (λ (x : Head). x.rows) F.same in
+      let c : h.columns ≡ columns_at i b = ap (λ (x : Head). x.columns) F.same in
+      (omega (arith, two_bytes (head_bytes i) b f), omega (arith, two_bytes (head_bytes i + 2) b f), omega (arith, two_bytes (head_bytes i + 4) b f))
 
-    pub lent_fit : n ≡ w → lent_for n F ≡ found (entry_at i b)
-    unfolding lent_for entry_at
-    lent_fit z = ap (lent_for n) e ∙ ap (λ (t : Bool). fitting t (entry_at i b)) (eq-eqb n (words_in i b) (z ∙ ew))
+-- as many words are lent as the body of an entry has: they take its rows
 
--- ---- unpacking, case by case: what is told, and what the words have become
+pub lent_fit : (n : ℕ) (F : Lookup) (i : ℕ) (b : List ℕ) → F ≡ Ok (entry_at i b) → n ≡ words_in i b → lent_for n F ≡ Ok (entry_at i b)
+unfolding lent_for entry_at
+lent_fit n F i b e z = ap (lent_for n) e ∙ ap (λ (t : Bool). fitting t (entry_at i b)) (eq-eqb n (words_in i b) z)
 
-abbrev Unpacks : Lookup → List ℕ → Told → List ℕ → Type 0
-Unpacks F ws t out = (t ≡ told_of F) × (out ≡ unpacked_of F ws)
+module _ {rule : ℕ → Outcome} {i : ℕ} {b : List ℕ} {h : Head} (F : Found rule i b h) (ws : List ℕ) (ew : length ws ≡ body_words h.rows h.columns) where
+  lent : lent_entry rule i b ws ≡ Ok (entry_at i b)
+  lent = lent_fit (length ws) _ i b F.there (ew ∙ ap (λ (x : Head). body_words x.rows x.columns) F.same)
 
-nothing : (F : Lookup) (r : Refusal) (ws : List ℕ) → F ≡ missing r → Unpacks F ws (told.Refused r) ws
-unfolding unpacked_of
-nothing F r ws e = (told_missing F r e, sym (ap (λ (x : Lookup). unpacked_of x ws) e))
-
-module _ (rule : ℕ → Outcome) (b : List ℕ) (o : Outcome) (eo : o ≡ bundle_checks rule b) (i : ℕ) (ws : List ℕ) where
-  abbrev F : Lookup
-  F = find i (meaning rule b)
-
-  pub unpack_refused : (r : Refusal) → o ≡ Refused r → Unpacks (lent_entry rule i b ws) ws (told.Refused r) ws
-  unpack_refused r e = nothing _ r ws (lent_missing (length ws) F r (find_refused rule b o eo i r e))
-
-  module _ (e : o ≡ Done) (n : ℕ) (en : n ≡ count_of b) where
-    pub unpack_past : n ≤ i → Unpacks (lent_entry rule i b ws) ws (told.Refused NotBelow) ws
-    unpack_past h = nothing _ NotBelow ws (lent_missing (length ws) F NotBelow (find_past rule b o eo e n en i h))
-
-    module _ (h : i < n) (w : ℕ) (ew : w ≡ words_in i b) where
-      pub unpack_unfit : length ws ≢ w → Unpacks (lent_entry rule i b ws) ws (told.Refused WrongLength) ws
-      unpack_unfit ne = nothing _ WrongLength ws (lent_unfit (length ws) F i w b (find_entry rule b o eo e n en i h) ew ne)
-
-      module _ (z : length ws ≡ w) where
-        pub unpack_room : offset_at i b + 8 * length ws ≤ length b
-        unpack_room = subst (λ (x : ℕ). offset_at i b + 8 * x ≤ length b) (sym (z ∙ ew)) (good_entry rule b o eo e n en i h).entry.body.inside
-
-        pub unpack_fit : (t : Told) (out : List ℕ) → Bytes b → t ≡ told.Numbers (kind_at i b) (rows_at i b) (columns_at i b)
-            → out ≡ words_at (kind_at i b) (offset_at i b) (length ws) b → Unpacks (lent_entry rule i b ws) ws t out
-        unfolding unpacked_of entry_at
-        unpack_fit t out f et eu =
-            let g : lent_entry rule i b ws ≡ found (entry_at i b) = lent_fit (length ws) F i w b (find_entry rule b o eo e n en i h) ew z in (
-              told_found (lent_entry rule i b ws) t i b et g,
-              eu ∙ ap (λ (k : ℕ). words_at (kind_at i b) (offset_at i b) k b) (z ∙ ew)
-                  ∙ sym (flat_matrix (kind_at i b) (offset_at i b) (rows_at i b) (columns_at i b) b f) ∙ sym (ap (λ (x : Lookup). unpacked_of x ws) g),
-            )
+  pub unpacked : {n : Numbers} {out : List ℕ} → Bytes b → n ≡ record { kind = h.kind; rows = h.rows; columns = h.columns }
+      → out ≡ words_at h.kind h.offset (length ws) b → (Ok n ≡ told_of (lent_entry rule i b ws)) × (out ≡ unpacked_of (lent_entry rule i b ws) ws)
+  unfolding told_of unpacked_of entry_at
+  unpacked {n} {out} f en eo = (
+    ap Ok (en ∙ ap (λ (x : Head). record { kind = x.kind; rows = x.rows; columns = x.columns }) F.same) ∙ sym (ap told_of lent),
+    eo ∙ ap (λ (k : ℕ). words_at h.kind h.offset k b) ew ∙ ap (λ (x : Head). words_at x.kind x.offset (body_words x.rows x.columns) b) F.same
+        ∙ sym (flat_matrix (kind_at i b) (offset_at i b) (rows_at i b) (columns_at i b) b f) ∙ sym (ap (λ (x : Lookup). unpacked_of x ws) lent),
+  )

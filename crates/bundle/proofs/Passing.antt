@@ -9,15 +9,15 @@ use lib.ListN.{length}
 use borrow.Author.Tests.{ltb-false, eqb-false, le-ltb, ne_eqb, not-false}
 use Rattle.refusals.specs.declared.Refusal.{Refusal}
 use Rattle.refusals.specs.declared.Refusal.TheVariants.{BadShape}
-use Rattle.refusals.specs.declared.Outcome.{Outcome}
-use Rattle.refusals.specs.declared.Outcome.TheVariants.{Done, Refused}
-use Rattle.refusals.specs.Outcome.{refuse_if, first}
+use Rattle.std.specs.Prelude.{Ok, Err}
+use Rattle.std.specs.Result.{result_or}
+use Rattle.refusals.specs.Outcome.{Outcome, refuse_if, first}
 use Rattle.refusals.specs.Checks.{size_checks, Sized}
 use Rattle.words.specs.Words.{narrow}
 use Rattle.refusals.proofs.Chain.{Passes, refused_not, then_done, passing, passed}
 use Rattle.refusals.proofs.Passed.{pos, if_done, done_if, same_done, done_same, sizes_done, done_sizes}
 use Rattle.bundle.specs.Bundle.{body_words, head_bytes, count_of, kind_at, rows_at, columns_at, offset_at, words_in, matrix_at}
-use Rattle.bundle.specs.Bundle.{refused_as, bad_shape, body_order, entry_order, entries_checks, bundle_order, bundle_checks, Stands, Placed, Accepted}
+use Rattle.bundle.specs.Bundle.{bad_shape, body_order, entry_order, entries_checks, bundle_order, bundle_checks, Stands, Placed, Accepted}
 
 -- ---- a check of a number: that it is not over another, that it is not 0
 
@@ -37,9 +37,9 @@ module _ (r : Refusal) (n : ℕ) where
 
 -- ---- an entry
 
-as_done : (r : Refusal) (o : Outcome) → Passes (refused_as r o) → Passes o
-as_done r Done e = refl
-as_done r (Refused x) e = absurd (refused_not e)
+as_done : (r : Refusal) (o : Outcome) → Passes (result_or o (Err r)) → Passes o
+as_done r (Ok tt) e = refl
+as_done r (Err x) e = absurd (refused_not e)
 
 pub shaped : (rows columns : ℕ) → Passes (bad_shape rows columns) → Sized 512 rows columns
 unfolding bad_shape
@@ -47,7 +47,7 @@ shaped rows columns e = sizes_done rows columns (as_done BadShape (size_checks r
 
 pub shape_passes : (rows columns : ℕ) → Sized 512 rows columns → Passes (bad_shape rows columns)
 unfolding bad_shape
-shape_passes rows columns s = ap (refused_as BadShape) (done_sizes rows columns s)
+shape_passes rows columns s = ap (λ (o : Outcome). result_or o (Err BadShape)) (done_sizes rows columns s)
 
 module _ (kind rows columns offset p : ℕ) (b : List ℕ) where
   pub stands : Passes (first (body_order kind rows columns offset p b)) → Stands kind rows columns offset p b
@@ -87,19 +87,19 @@ module _ (rule : ℕ → Outcome) (i p : ℕ) (b : List ℕ) where
 
 -- ---- entries one after the other
 
-pub entries_step : (rule : ℕ → Outcome) (n i p : ℕ) (b : List ℕ) → entries_checks rule (suc n) i p b ≡ Done
-    → Placed rule i p b × (entries_checks rule n (i + 1) (p + 8 * words_in i b) b ≡ Done)
+pub entries_step : (rule : ℕ → Outcome) (n i p : ℕ) (b : List ℕ) → entries_checks rule (suc n) i p b ≡ Ok tt
+    → Placed rule i p b × (entries_checks rule n (i + 1) (p + 8 * words_in i b) b ≡ Ok tt)
 unfolding entries_checks
 entries_step rule n i p b e =
     let t = then_done (first (entry_order rule i p b)) (entries_checks rule n (i + 1) (p + 8 * words_in i b) b) e in
     (placed rule i p b t.0, t.1)
 
-pub entries_end : (rule : ℕ → Outcome) (i p : ℕ) (b : List ℕ) → entries_checks rule 0 i p b ≡ Done → p ≡ length b
+pub entries_end : (rule : ℕ → Outcome) (i p : ℕ) (b : List ℕ) → entries_checks rule 0 i p b ≡ Ok tt → p ≡ length b
 unfolding entries_checks
 entries_end rule i p b e = same_done _ p (length b) e
 
 -- each entry is placed where its own contents say
-pub all_placed : (rule : ℕ → Outcome) (n i p : ℕ) (b : List ℕ) → entries_checks rule n i p b ≡ Done → (j : ℕ) → j < n → Placed rule (i + j) (offset_at (i + j) b) b
+pub all_placed : (rule : ℕ → Outcome) (n i p : ℕ) (b : List ℕ) → entries_checks rule n i p b ≡ Ok tt → (j : ℕ) → j < n → Placed rule (i + j) (offset_at (i + j) b) b
 all_placed rule zero i p b e j h = absurd (omega arith)
 all_placed rule (suc n) i p b e j h = go (all_placed rule n (i + 1) (p + 8 * words_in i b) b (entries_step rule n i p b e).1) j h
   where
@@ -146,7 +146,7 @@ pub record Good (rule : ℕ → Outcome) (i : ℕ) (b : List ℕ) : Type 0 where
   pub head : head_bytes (i + 1) ≤ length b
   pub entry : Placed rule i (offset_at i b) b
 
-pub good : (rule : ℕ → Outcome) (i : ℕ) (b : List ℕ) → bundle_checks rule b ≡ Done → i < count_of b → Good rule i b
+pub good : (rule : ℕ → Outcome) (i : ℕ) (b : List ℕ) → bundle_checks rule b ≡ Ok tt → i < count_of b → Good rule i b
 good rule i b e h =
     let a : Accepted rule b = accepted rule b e in
     let z : 0 + i ≡ i = omega arith in

@@ -1,13 +1,12 @@
 -- What bytes say as a bundle: its entries, or the refusal that the order of the checks gives first.
-use Rattle.std.specs.Prelude.{◌≡◌, true, not, cond, List, [], ◌∷◌, ℕ, zero, suc, ◌+◌, ◌*◌, ◌<◌, ◌≤◌, eqb, ltb, length}
+use Rattle.std.specs.Prelude.{◌≡◌, true, not, cond, List, [], ◌∷◌, ℕ, zero, suc, ◌+◌, ◌*◌, ◌<◌, ◌≤◌, eqb, ltb, length, Result, Ok, Err}
+use Rattle.std.specs.Result.{result_and, result_or}
 use Rattle.words.specs.Words.{words_of, rows_of, narrow}
 use Rattle.wire.specs.Bytes.{num}
 use Rattle.wire.specs.Kinds.{words_at}
 use Rattle.refusals.specs.declared.Refusal.{Refusal}
 use Rattle.refusals.specs.declared.Refusal.TheVariants.{DirtyPadding, BundleSize, EntryCount, ContentsCut, BadKind, BadShape, WrongOffset, BodyPast, BytesLeft}
-use Rattle.refusals.specs.declared.Outcome.{Outcome}
-use Rattle.refusals.specs.declared.Outcome.TheVariants.{Done, Refused}
-use Rattle.refusals.specs.Outcome.{refuse_if, ◌and_then◌, first}
+use Rattle.refusals.specs.Outcome.{Outcome, refuse_if, ◌and_then◌, first}
 use Rattle.refusals.specs.Checks.{size_checks, Sized}
 
 -- a matrix in a bundle, its rows as numbers
@@ -58,16 +57,11 @@ kind_rule two kind = cond (eqb kind 2) two (refuse_if (not (eqb kind 1)) BadKind
 
 -- both kinds are taken
 abbrev pub both_kinds : ℕ → Outcome
-both_kinds = kind_rule Done
+both_kinds = kind_rule (Ok tt)
 
--- a refusal, told as this one
-abbrev pub refused_as : Refusal → Outcome → Outcome
-refused_as r Done = Done
-refused_as r (Refused x) = Refused r
-
--- too many rows; no columns, or too many (24)
+-- too many rows; no columns, or too many (24, whichever it is)
 unfoldable pub bad_shape : ℕ → ℕ → Outcome
-bad_shape rows columns = refused_as BadShape (size_checks rows columns)
+bad_shape rows columns = result_or (size_checks rows columns) (Err BadShape)
 
 -- a body that should begin at byte p: where the contents say it is (25), inside the bundle (26), its padding zero (5)
 unfoldable pub body_order : ℕ → ℕ → ℕ → ℕ → ℕ → List ℕ → List Outcome
@@ -116,7 +110,7 @@ pub record Stands (kind rows columns offset p : ℕ) (b : List ℕ) : Type 0 whe
 
 -- entry i passes: its kind is taken, it has the sizes of a matrix, and its body stands at byte p
 pub record Placed (rule : ℕ → Outcome) (i p : ℕ) (b : List ℕ) : Type 0 where
-  pub taken : rule (kind_at i b) ≡ Done
+  pub taken : rule (kind_at i b) ≡ Ok tt
   pub shape : Sized 512 (rows_at i b) (columns_at i b)
   pub body : Stands (kind_at i b) (rows_at i b) (columns_at i b) (offset_at i b) p b
 
@@ -127,7 +121,7 @@ pub record Accepted (rule : ℕ → Outcome) (b : List ℕ) : Type 0 where
   pub any : 0 < count_of b
   pub few : count_of b ≤ 64
   pub whole : head_bytes (count_of b) ≤ length b
-  pub entries : entries_checks rule (count_of b) 0 (head_bytes (count_of b)) b ≡ Done
+  pub entries : entries_checks rule (count_of b) 0 (head_bytes (count_of b)) b ≡ Ok tt
 
 -- ---- what bytes mean
 
@@ -146,14 +140,12 @@ unfoldable pub entries_of : List ℕ → List Entry
 entries_of b = entries_from (count_of b) 0 b
 
 -- what bytes mean: the entries of a bundle, or why they are none
-pub data Meaning : Type 0 where
-  refused : Refusal → Meaning
-  bundle : List Entry → Meaning
+abbrev pub Meaning : Type 0
+Meaning = Result (List Entry) Refusal
 
 -- the entries, where the checks refuse nothing
 abbrev pub meant_by : Outcome → List Entry → Meaning
-meant_by Done es = bundle es
-meant_by (Refused r) es = refused r
+meant_by o es = result_and o (Ok es)
 
 -- the meaning of bytes, under a rule for kinds
 unfoldable pub meaning : (ℕ → Outcome) → List ℕ → Meaning

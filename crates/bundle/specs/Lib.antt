@@ -1,3 +1,4 @@
 pub mod Bundle
 pub mod Answers
 pub mod Sample
+pub mod Steps

@@ -1,139 +1,130 @@
 // Reading under a rule for kinds: kind 1 is taken, kind 2 gets what the caller says, any other is unknown.
-ghost use Rattle.std.specs.Prelude.{◌≡◌, ◌+◌, ◌*◌, ◌≤◌, ◌<◌, length};
+ghost use Rattle.std.specs.Prelude.{◌≡◌, ◌+◌, ◌*◌, ◌≤◌, ◌<◌, length, Ok, Err};
+ghost use Rattle.std.specs.Result.{result_and, ForOk, ForErr};
 ghost use Rattle.refusals.specs.Outcome.{◌and_then◌, first};
 ghost use Rattle.refusals.specs.Checks.{Sized};
-ghost use Rattle.wire.specs.Kinds.{words_at};
-ghost use Rattle.bundle.specs.Bundle.{head_bytes, count_of, kind_at, rows_at, columns_at, offset_at, words_in, kind_rule, bad_shape, body_order, entry_order, entries_checks, bundle_checks, meaning};
-ghost use Rattle.bundle.specs.declared.Told.TheVariants as told;
+ghost use Rattle.bundle.specs.Bundle.{body_words, head_bytes, count_of, words_in, kind_rule, bad_shape, body_order, entry_order, entries_checks, bundle_checks, meaning};
 ghost use Rattle.bundle.specs.Answers.{counted_in, find, told_of, lent_entry, unpacked_of};
+ghost use Rattle.bundle.specs.Steps.{head_at, Found};
 
-use crate::{Counted, Told, body};
+use crate::{Numbers, body};
 use refusals::{Outcome, Refusal};
 
 // what a kind gets
+#[tactic(auto, unfolding(crate::specs::Bundle::kind_rule))]
 fn kind_gets(two: Outcome, kind: usize) -> Outcome
     ensures { result ≡ kind_rule two kind }
 {
-    if kind == 2 {
-        return two;
+    match kind {
+        1 => Ok(()),
+        2 => two,
+        _ => Err(Refusal::BadKind),
     }
-    if kind == 1 {
-        return Outcome::Done;
-    }
-    Outcome::Refused(Refusal::BadKind)
 }
 
+#[tactic(auto, unfolding(crate::specs::Bundle::bad_shape))]
 fn bad_shape(rows: usize, columns: usize) -> Outcome
     ensures { result ≡ bad_shape rows columns }
 {
-    let o = refusals::sizes(rows, columns);
-    match o {
-        Outcome::Refused(_) => Outcome::Refused(Refusal::BadShape),
-        Outcome::Done => Outcome::Done,
-    }
+    refusals::sizes(rows, columns).or(Err(Refusal::BadShape))
 }
 
 // an entry's kind and shape
 pub fn shape(two: Outcome, kind: usize, rows: usize, columns: usize) -> Outcome
     ensures { result ≡ kind_rule two kind and_then bad_shape rows columns }
 {
-    kind_gets(two, kind).and_then(bad_shape(rows, columns))
+    kind_gets(two, kind)?;
+    bad_shape(rows, columns)
 }
 
-// a body that should begin at byte at
-fn check_body(
-    b: &[u8],
+// what the contents say of an entry, the kind a number as it is stored; its body begins at byte `offset`
+#[derive(Clone, Copy)]
+struct Head {
     kind: usize,
     rows: usize,
     columns: usize,
     offset: usize,
-    at: usize,
-) -> Outcome
-    requires { Sized 512 rows columns × (at ≤ length b.now) × (length b.now ≤ 65535) }
-    ensures { result ≡ first (body_order kind rows columns offset at b.now) }
-{
-    if offset != at {
-        return Outcome::Refused(Refusal::WrongOffset);
-    }
-    if b.len() < at + 8 * body::words(rows, columns) {
-        return Outcome::Refused(Refusal::BodyPast);
-    }
-    if body::is_clean(b, kind, at, rows, columns) {
-        return Outcome::Done;
-    }
-    Outcome::Refused(Refusal::DirtyPadding)
 }
 
-// entry i, whose body should begin at byte at
-fn check_entry(two: Outcome, b: &[u8], i: usize, at: usize) -> Outcome
-    requires { (head_bytes (i + 1) ≤ length b.now) × (at ≤ length b.now) × (length b.now ≤ 65535) }
-    ensures { result ≡ first (entry_order (kind_rule two) i at b.now) }
-{
-    let head = 2 + 10 * i;
-    let kind = body::size(b, head, 2);
-    let rows = body::size(b, head + 2, 2);
-    let columns = body::size(b, head + 4, 2);
-    let offset = body::size(b, head + 6, 4);
-    let o = shape(two, kind, rows, columns);
-    match o {
-        Outcome::Refused(r) => Outcome::Refused(r),
-        Outcome::Done => check_body(b, kind, rows, columns, offset, at),
+impl Head {
+    // that of entry i
+    fn at(b: &[u8], i: usize) -> Head
+        requires { head_bytes (i + 1) ≤ length b.now }
+        ensures { result ≡ head_at i b.now }
+    {
+        let at = 2 + 10 * i;
+        Head {
+            kind: body::size(b, at, 2),
+            rows: body::size(b, at + 2, 2),
+            columns: body::size(b, at + 4, 2),
+            offset: body::size(b, at + 6, 4),
+        }
+    }
+
+    // the words of the body, where the shape is right
+    fn words(self) -> usize
+        requires { Sized 512 self.rows self.columns }
+        ensures { (result ≡ body_words self.rows self.columns) × (result ≤ 8192) }
+    {
+        self.rows * words::per_row(self.columns)
+    }
+
+    // the three numbers, each of two bytes
+    fn numbers(self) -> Numbers
+        requires { (self.kind < 65536) × (self.rows < 65536) × (self.columns < 65536) }
+        ensures { result ≡ record { kind = self.kind; rows = self.rows; columns = self.columns } }
+    {
+        Numbers {
+            kind: self.kind as u16,
+            rows: self.rows as u16,
+            columns: self.columns as u16,
+        }
     }
 }
 
-// the words of entry i, whose shape is right
-fn words_in(b: &[u8], i: usize) -> usize
-    requires { (head_bytes (i + 1) ≤ length b.now) × (length b.now ≤ 65535) × Sized 512 (rows_at i b.now) (columns_at i b.now) }
-    ensures { (result ≡ words_in i b.now) × (result ≤ 8192) }
+// a body that should begin at byte at: the byte behind it
+#[tactic(auto, using(crate::proofs::Steps::tests), unfolding(crate::specs::Bundle::body_order))]
+fn check_body(b: &[u8], head: Head, at: usize) -> Result<usize, Refusal>
+    requires { Sized 512 head.rows head.columns × (at ≤ length b.now) }
+    ensures { result ≡ result_and (first (body_order head.kind head.rows head.columns head.offset at b.now)) (Ok (at + 8 * body_words head.rows head.columns)) }
 {
-    let head = 2 + 10 * i;
-    let rows = body::size(b, head + 2, 2);
-    let columns = body::size(b, head + 4, 2);
-    body::words(rows, columns)
+    if head.offset != at {
+        return Err(Refusal::WrongOffset);
+    }
+    let end = at + 8 * head.words();
+    if b.len() < end {
+        return Err(Refusal::BodyPast);
+    }
+    if !body::is_clean(b, head.kind, at, head.rows, head.columns) {
+        return Err(Refusal::DirtyPadding);
+    }
+    Ok(end)
+}
+
+// entry i, whose body should begin at byte at: the byte behind the body
+#[tactic(auto, using(crate::proofs::Steps::entry_shape), unfolding(crate::specs::Bundle::entry_order))]
+fn check_entry(two: Outcome, b: &[u8], i: usize, at: usize) -> Result<usize, Refusal>
+    requires { (head_bytes (i + 1) ≤ length b.now) × (at ≤ length b.now) }
+    ensures { result ≡ result_and (first (entry_order (kind_rule two) i at b.now)) (Ok (at + 8 * words_in i b.now)) }
+{
+    let head = Head::at(b, i);
+    shape(two, head.kind, head.rows, head.columns)?;
+    check_body(b, head, at)
 }
 
 // n entries one after the other; then nothing may be left
 fn check_entries(two: Outcome, b: &[u8], n: usize) -> Outcome
-    requires { (head_bytes n ≤ length b.now) × (length b.now ≤ 65535) }
+    requires { head_bytes n ≤ length b.now }
     ensures { result ≡ entries_checks (kind_rule two) n 0 (head_bytes n) b.now }
 {
     let mut at = 2 + 10 * n;
-    let mut i = 0;
-    while i < n {
-        let o = check_entry(two, b, i, at);
-        if let Outcome::Refused(r) = o {
-            return Outcome::Refused(r);
-        }
-        at += 8 * words_in(b, i);
-        i += 1;
+    for i in 0..n {
+        at = check_entry(two, b, i, at)?;
     }
     if at != b.len() {
-        return Outcome::Refused(Refusal::BytesLeft);
+        return Err(Refusal::BytesLeft);
     }
-    Outcome::Done
-}
-
-// the checks of a bundle, in their order
-pub fn check(two: Outcome, b: &[u8]) -> Outcome
-    ensures { result ≡ bundle_checks (kind_rule two) b.now }
-{
-    if b.len() < 2 {
-        return Outcome::Refused(Refusal::BundleSize);
-    }
-    if 65535 < b.len() {
-        return Outcome::Refused(Refusal::BundleSize);
-    }
-    let n = body::size(b, 0, 2);
-    if n == 0 {
-        return Outcome::Refused(Refusal::EntryCount);
-    }
-    if 64 < n {
-        return Outcome::Refused(Refusal::EntryCount);
-    }
-    if b.len() < 2 + 10 * n {
-        return Outcome::Refused(Refusal::ContentsCut);
-    }
-    check_entries(two, b, n)
+    Ok(())
 }
 
 // how many entries
@@ -144,73 +135,58 @@ fn count(b: &[u8]) -> usize
     body::size(b, 0, 2)
 }
 
-pub fn read(two: Outcome, bytes: &[u8]) -> Counted
+// the checks of a bundle, in their order
+#[tactic(auto, using(crate::proofs::Steps::tests), unfolding(crate::specs::Bundle::bundle_order))]
+pub fn check(two: Outcome, b: &[u8]) -> Outcome
+    ensures { result ≡ bundle_checks (kind_rule two) b.now }
+{
+    if b.len() < 2 || 65535 < b.len() {
+        return Err(Refusal::BundleSize);
+    }
+    let n = count(b);
+    if n == 0 || 64 < n {
+        return Err(Refusal::EntryCount);
+    }
+    if b.len() < 2 + 10 * n {
+        return Err(Refusal::ContentsCut);
+    }
+    check_entries(two, b, n)
+}
+
+#[tactic(auto, using(crate::proofs::Meaning::two_bytes_long), unfolding(crate::specs::Answers::counted_in, crate::specs::Bundle::meaning, crate::specs::Bundle::entries_of))]
+pub fn read(two: Outcome, bytes: &[u8]) -> Result<usize, Refusal>
     ensures { result ≡ counted_in (meaning (kind_rule two) bytes.now) }
 {
-    let o = check(two, bytes);
-    match o {
-        Outcome::Refused(r) => Counted::Refused(r),
-        Outcome::Done => Counted::Entries(count(bytes)),
-    }
+    check(two, bytes)?;
+    Ok(count(bytes))
 }
 
-// the three numbers of entry i
-fn tell(b: &[u8], i: usize) -> Told
-    requires { (head_bytes (i + 1) ≤ length b.now) × (length b.now ≤ 65535) }
-    ensures { result ≡ told.Numbers (kind_at i b.now) (rows_at i b.now) (columns_at i b.now) }
+// what the contents of a bundle say of entry i
+#[tactic(auto, unfolding(crate::specs::Answers::find, crate::specs::Bundle::meaning))]
+fn find(two: Outcome, bytes: &[u8], i: usize) -> Result<Head, Refusal>
+    ensures found { ForOk result (Found (kind_rule two) i bytes.now) }
+    ensures missing { ForErr result (λ r. find i (meaning (kind_rule two) bytes.now) ≡ Err r) }
 {
-    let head = 2 + 10 * i;
-    let kind = body::size(b, head, 2) as u16;
-    let rows = body::size(b, head + 2, 2) as u16;
-    let columns = body::size(b, head + 4, 2) as u16;
-    Told::Numbers {
-        kind: kind,
-        rows: rows,
-        columns: columns,
-    }
+    check(two, bytes)?;
+    refusals::not_below(i, count(bytes))?;
+    Ok(Head::at(bytes, i))
 }
 
-pub fn entry(two: Outcome, bytes: &[u8], i: usize) -> Told
+#[tactic(auto, using(crate::proofs::Meaning::numbers_small), unfolding(crate::specs::Answers::told_of, crate::specs::Bundle::entry_at))]
+pub fn entry(two: Outcome, bytes: &[u8], i: usize) -> Result<Numbers, Refusal>
     ensures { result ≡ told_of (find i (meaning (kind_rule two) bytes.now)) }
 {
-    let o = check(two, bytes);
-    match o {
-        Outcome::Refused(r) => Told::Refused(r),
-        Outcome::Done => {
-            if i < count(bytes) {
-                return tell(bytes, i);
-            }
-            Told::Refused(Refusal::NotBelow)
-        }
-    }
+    Ok(find(two, bytes, i)?.numbers())
 }
 
-// writes the words of entry i
-fn fill(b: &[u8], i: usize, words: &mut [u64])
-    requires { (head_bytes (i + 1) ≤ length b.now) × (length b.now ≤ 65535) × (offset_at i b.now + 8 * length words.old ≤ length b.now) }
-    ensures { words.new ≡ words_at (kind_at i b.now) (offset_at i b.now) (length words.old) b.now }
-{
-    let head = 2 + 10 * i;
-    let kind = body::size(b, head, 2);
-    let offset = body::size(b, head + 6, 4);
-    body::fill(b, kind, offset, words);
-}
-
-pub fn unpack(two: Outcome, bytes: &[u8], i: usize, words: &mut [u64]) -> Told
+#[tactic(auto, using(crate::proofs::Meaning::numbers_small), unfolding(crate::specs::Answers::told_of, crate::specs::Answers::lent_for, crate::specs::Answers::unpacked_of, crate::specs::Bundle::entry_at))]
+pub fn unpack(two: Outcome, bytes: &[u8], i: usize, words: &mut [u64]) -> Result<Numbers, Refusal>
     ensures { (result ≡ told_of (lent_entry (kind_rule two) i bytes.now words.old)) × (words.new ≡ unpacked_of (lent_entry (kind_rule two) i bytes.now words.old) words.old) }
 {
-    let o = check(two, bytes);
-    match o {
-        Outcome::Refused(r) => Told::Refused(r),
-        Outcome::Done => {
-            if count(bytes) <= i {
-                return Told::Refused(Refusal::NotBelow);
-            }
-            if words.len() != words_in(bytes, i) {
-                return Told::Refused(Refusal::WrongLength);
-            }
-            fill(bytes, i, words);
-            tell(bytes, i)
-        }
+    let head = find(two, bytes, i)?;
+    if words.len() != head.words() {
+        return Err(Refusal::WrongLength);
     }
+    body::fill(bytes, head.kind, head.offset, words);
+    Ok(head.numbers())
 }

@@ -1,10 +1,10 @@
 #![tactic(auto)]
 // The calls as C sees them: plain numbers and structs. The crate chhayublo_c exports them; a slice is passed as a pointer and a length, and include/chhayublo.h declares all of it for C.
-ghost use Rattle.std.specs.Prelude.{◌≡◌, length};
+ghost use Rattle.std.specs.Prelude.{◌≡◌, length, Result};
 ghost use Rattle.gf2.specs.Rows.{part};
-ghost use Rattle.refusals.specs.declared.Outcome.{Outcome};
-ghost use Rattle.refusals.specs.Outcome.{outcome_number};
-ghost use Rattle.matrix.specs.declared.Answer as matrix;
+ghost use Rattle.refusals.specs.declared.Refusal.{Refusal};
+ghost use Rattle.refusals.specs.Outcome.{Outcome, outcome_number};
+ghost use Rattle.matrix.specs.declared.Answer.{Answer};
 ghost use Rattle.matrix.specs.Calls.{row_view, ReductionPromised};
 ghost use Rattle.inverse.specs.Calls.{InversionPromised};
 ghost use Rattle.packets.specs.declared.Verdict.{Verdict};
@@ -15,9 +15,10 @@ ghost use Rattle.bundle.specs.Answers.{counted_in, find, told_of, lent_entry, un
 ghost use Rattle.pack.specs.Writing.{written, output};
 ghost use Rattle.chhayublo.specs.Calls.{seen_row, seen_answer, seen_verdict, seen_count, seen_entry, seen_length, version};
 
-use bundle::{Counted, Told};
-use pack::Written;
+use bundle::Numbers;
+use matrix::Answer;
 use packets::Verdict;
+use refusals::Refusal;
 
 // where a row stands in the caller's words: its first word, and how many words it has; 0 and 0 where the view is refused
 #[repr(C)]
@@ -64,7 +65,7 @@ pub struct SeenEntry {
     pub columns: u64,
 }
 
-// how many bytes a written bundle has
+// how many bytes a written bundle has; a struct of its own, as the header has it
 #[repr(C)]
 #[derive(Clone, Copy)]
 pub struct SeenLength {
@@ -89,22 +90,38 @@ pub fn chhayublo_row_view(m: &[u64], rows: usize, columns: usize, i: usize) -> S
     }
     SeenRow {
         start: i * words,
-        words: words,
+        words,
     }
 }
 
-// an answer as C sees it
-fn seen(a: matrix::Answer) -> SeenAnswer
-    ensures { result ≡ seen_answer a }
-{
-    let outcome = a.outcome;
-    let pivots = a.pivots;
-    SeenAnswer {
-        refusal: outcome.number() as u64,
-        rank: a.rank,
-        known: a.known,
-        additions: a.additions,
-        pivots: pivots,
+// an answer as C sees it: beside a refusal no rank, no totals, no pivots
+impl From<Result<Answer, Refusal>> for SeenAnswer {
+    ghost from_gives = { λ a s. s ≡ seen_answer a };
+
+    fn from(answer: Result<Answer, Refusal>) -> SeenAnswer {
+        let refusal = u64::from(refusals::number(&answer));
+        match answer {
+            Ok(a) => {
+                let pivots = a.pivots;
+                SeenAnswer {
+                    refusal,
+                    rank: a.rank,
+                    known: a.known,
+                    additions: a.additions,
+                    pivots,
+                }
+            }
+            Err(_) => {
+                let pivots = [65535; 512];
+                SeenAnswer {
+                    refusal,
+                    rank: 0,
+                    known: 0,
+                    additions: 0,
+                    pivots,
+                }
+            }
+        }
     }
 }
 
@@ -115,9 +132,9 @@ pub fn chhayublo_reduce(
     k: usize,
     room: &mut [u64],
 ) -> SeenAnswer
-    ensures { (a : matrix.Answer) × ReductionPromised rows columns k m.old room.old a m.new room.new × (result ≡ seen_answer a) }
+    ensures { (a : Result Answer Refusal) × ReductionPromised rows columns k m.old room.old a m.new room.new × (result ≡ seen_answer a) }
 {
-    seen(matrix::reduce(m, rows, columns, k, room))
+    SeenAnswer::from(matrix::reduce(m, rows, columns, k, room))
 }
 
 pub fn chhayublo_invert(
@@ -130,8 +147,7 @@ pub fn chhayublo_invert(
 ) -> u64
     ensures { (o : Outcome) × InversionPromised rows columns k m.now res.old room.old o res.new room.new × (result ≡ outcome_number o) }
 {
-    let outcome = inverse::invert(m, rows, columns, k, res, room);
-    outcome.number() as u64
+    u64::from(refusals::number(&inverse::invert(m, rows, columns, k, res, room)))
 }
 
 pub fn chhayublo_solve(
@@ -144,9 +160,21 @@ pub fn chhayublo_solve(
     marks: &mut [u8],
     room: &mut [u64],
 ) -> SeenAnswer
-    ensures { (a : matrix.Answer) × SolvingPromised rows columns n k m.old image.old marks.old room.old a m.new image.new marks.new room.new × (result ≡ seen_answer a) }
+    ensures { (a : Result Answer Refusal) × SolvingPromised rows columns n k m.old image.old marks.old room.old a m.new image.new marks.new room.new × (result ≡ seen_answer a) }
 {
-    seen(packets::solve(m, rows, columns, n, k, image, marks, room))
+    SeenAnswer::from(packets::solve(m, rows, columns, n, k, image, marks, room))
+}
+
+// a verdict as C sees it
+impl From<Result<Verdict, Refusal>> for SeenNames {
+    ghost from_gives = { λ v s. s ≡ seen_verdict v };
+
+    fn from(verdict: Result<Verdict, Refusal>) -> SeenNames {
+        SeenNames {
+            refusal: u64::from(refusals::number(&verdict)),
+            named: u64::from(verdict == Ok(Verdict::Named)),
+        }
+    }
 }
 
 pub fn chhayublo_contradiction(
@@ -158,75 +186,54 @@ pub fn chhayublo_contradiction(
     named: &mut [u64],
     room: &mut [u64],
 ) -> SeenNames
-    ensures { (v : Verdict) × NamingPromised rows columns n k m.now named.old room.old v named.new room.new × (result ≡ seen_verdict v) }
+    ensures { (v : Result Verdict Refusal) × NamingPromised rows columns n k m.now named.old room.old v named.new room.new × (result ≡ seen_verdict v) }
 {
-    let v = packets::contradiction(m, rows, columns, n, k, named, room);
-    match v {
-        Verdict::Named => SeenNames {
-            refusal: 0,
-            named: 1,
-        },
-        Verdict::None => SeenNames {
-            refusal: 0,
-            named: 0,
-        },
-        Verdict::Refused(r) => SeenNames {
-            refusal: refusals::number(r) as u64,
-            named: 0,
-        },
-    }
+    SeenNames::from(packets::contradiction(m, rows, columns, n, k, named, room))
 }
 
 pub fn chhayublo_bundle_read(bytes: &[u8]) -> SeenCount
     ensures { result ≡ seen_count (counted_in (meaning both_kinds bytes.now)) }
 {
-    let c = bundle::read(bytes);
-    match c {
-        Counted::Entries(n) => SeenCount {
-            refusal: 0,
-            entries: n,
-        },
-        Counted::Refused(r) => SeenCount {
-            refusal: refusals::number(r) as u64,
-            entries: 0,
-        },
+    let count = bundle::read(bytes);
+    SeenCount {
+        refusal: u64::from(refusals::number(&count)),
+        entries: count.unwrap_or(0),
     }
 }
 
 // what is told of an entry, as C sees it
-fn seen_entry(t: Told) -> SeenEntry
-    ensures { result ≡ seen_entry t }
-{
-    match t {
-        Told::Numbers {
-            kind,
-            rows,
-            columns,
-        } => SeenEntry {
-            refusal: 0,
-            kind: kind as u64,
-            rows: rows as u64,
-            columns: columns as u64,
-        },
-        Told::Refused(refusal) => SeenEntry {
-            refusal: refusals::number(refusal) as u64,
-            kind: 0,
-            rows: 0,
-            columns: 0,
-        },
+impl From<Result<Numbers, Refusal>> for SeenEntry {
+    ghost from_gives = { λ e s. s ≡ seen_entry e };
+
+    fn from(entry: Result<Numbers, Refusal>) -> SeenEntry {
+        let refusal = u64::from(refusals::number(&entry));
+        match entry {
+            Ok(e) => SeenEntry {
+                refusal,
+                kind: u64::from(e.kind),
+                rows: u64::from(e.rows),
+                columns: u64::from(e.columns),
+            },
+            Err(_) => SeenEntry {
+                refusal,
+                kind: 0,
+                rows: 0,
+                columns: 0,
+            },
+        }
     }
 }
 
 pub fn chhayublo_bundle_entry(bytes: &[u8], i: usize) -> SeenEntry
     ensures { result ≡ seen_entry (told_of (find i (meaning both_kinds bytes.now))) }
 {
-    seen_entry(bundle::entry(bytes, i))
+    SeenEntry::from(bundle::entry(bytes, i))
 }
 
 pub fn chhayublo_bundle_unpack(bytes: &[u8], i: usize, words: &mut [u64]) -> SeenEntry
     ensures { (result ≡ seen_entry (told_of (lent_entry both_kinds i bytes.now words.old))) × (words.new ≡ unpacked_of (lent_entry both_kinds i bytes.now words.old) words.old) }
 {
-    seen_entry(bundle::unpack(bytes, i, words))
+    SeenEntry::from(bundle::unpack(bytes, i, words))
 }
 
 pub fn chhayublo_bundle_write(
@@ -238,15 +245,9 @@ pub fn chhayublo_bundle_write(
 ) -> SeenLength
     ensures { (result ≡ seen_length (written both_kinds kinds.now rows.now columns.now words.now (length out.old))) × (out.new ≡ output both_kinds kinds.now rows.now columns.now words.now out.old) }
 {
-    let w = pack::write(kinds, rows, columns, words, out);
-    match w {
-        Written::Bytes(n) => SeenLength {
-            refusal: 0,
-            bytes: n,
-        },
-        Written::Refused(r) => SeenLength {
-            refusal: refusals::number(r) as u64,
-            bytes: 0,
-        },
+    let length = pack::write(kinds, rows, columns, words, out);
+    SeenLength {
+        refusal: u64::from(refusals::number(&length)),
+        bytes: length.unwrap_or(0),
     }
 }

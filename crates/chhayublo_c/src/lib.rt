@@ -1,11 +1,11 @@
 // The archive that C links: the calls of the crate chhayublo with C's calling convention, each with the clauses that it has there.
 #![tactic(auto)]
 
-ghost use Rattle.std.specs.Prelude.{◌≡◌, length};
+ghost use Rattle.std.specs.Prelude.{◌≡◌, length, Result};
 ghost use Rattle.gf2.specs.Rows.{part};
-ghost use Rattle.refusals.specs.declared.Outcome.{Outcome};
-ghost use Rattle.refusals.specs.Outcome.{outcome_number};
-ghost use Rattle.matrix.specs.declared.Answer as matrix;
+ghost use Rattle.refusals.specs.declared.Refusal.{Refusal};
+ghost use Rattle.refusals.specs.Outcome.{Outcome, outcome_number};
+ghost use Rattle.matrix.specs.declared.Answer.{Answer};
 ghost use Rattle.matrix.specs.Calls.{row_view, ReductionPromised};
 ghost use Rattle.inverse.specs.Calls.{InversionPromised};
 ghost use Rattle.packets.specs.declared.Verdict.{Verdict};
@@ -40,7 +40,7 @@ pub extern "C" fn chhayublo_reduce(
     k: usize,
     room: &mut [u64],
 ) -> SeenAnswer
-    ensures { (a : matrix.Answer) × ReductionPromised rows columns k m.old room.old a m.new room.new × (result ≡ seen_answer a) }
+    ensures { (a : Result Answer Refusal) × ReductionPromised rows columns k m.old room.old a m.new room.new × (result ≡ seen_answer a) }
 {
     chhayublo::chhayublo_reduce(m, rows, columns, k, room)
 }
@@ -70,7 +70,7 @@ pub extern "C" fn chhayublo_solve(
     marks: &mut [u8],
     room: &mut [u64],
 ) -> SeenAnswer
-    ensures { (a : matrix.Answer) × SolvingPromised rows columns n k m.old image.old marks.old room.old a m.new image.new marks.new room.new × (result ≡ seen_answer a) }
+    ensures { (a : Result Answer Refusal) × SolvingPromised rows columns n k m.old image.old marks.old room.old a m.new image.new marks.new room.new × (result ≡ seen_answer a) }
 {
     chhayublo::chhayublo_solve(m, rows, columns, n, k, image, marks, room)
 }
@@ -85,7 +85,7 @@ pub extern "C" fn chhayublo_contradiction(
     named: &mut [u64],
     room: &mut [u64],
 ) -> SeenNames
-    ensures { (v : Verdict) × NamingPromised rows columns n k m.now named.old room.old v named.new room.new × (result ≡ seen_verdict v) }
+    ensures { (v : Result Verdict Refusal) × NamingPromised rows columns n k m.now named.old room.old v named.new room.new × (result ≡ seen_verdict v) }
 {
     chhayublo::chhayublo_contradiction(m, rows, columns, n, k, named, room)
 }

@@ -13,7 +13,7 @@ use Rattle.gf2.proofs.Reduced.{one_reduced_form}
 use Rattle.gf2.proofs.Rref.{rref_form}
 use Rattle.words.specs.Words.{Fit, words_of, rows_of, flat}
 use Rattle.words.proofs.Flat.{length_flat, flat_rows}
-use Rattle.refusals.specs.declared.Outcome.TheVariants.{Done}
+use Rattle.std.specs.Prelude.{Ok}
 use Rattle.refusals.specs.Checks.{reduction_checks}
 use Rattle.refusals.proofs.Passed.{passes_reduction}
 use Rattle.bundle.specs.Bundle.{Entry, body_words}
@@ -22,7 +22,7 @@ use Rattle.desk.specs.Desk.{window_columns, table_rows}
 use Rattle.desk.proofs.Sound.{Sound}
 
 module _ (e : Entry) (s : Sound e) where
-  pub passes : (words : List ℕ) (room : ℕ) → words ≡ flat (words_of e.columns) e.matrix → table_rows * words_of e.columns ≤ room → reduction_checks e.rows e.columns window_columns words room ≡ Done
+  pub passes : (words : List ℕ) (room : ℕ) → words ≡ flat (words_of e.columns) e.matrix → table_rows * words_of e.columns ≤ room → reduction_checks e.rows e.columns window_columns words room ≡ Ok tt
   passes words room ew er =
       let rows : rows_of (words_of e.columns) e.rows words ≡ e.matrix = ap (rows_of (words_of e.columns) e.rows) ew ∙ rows_again e s.size s.clean in
       passes_reduction e.rows e.columns window_columns words room (record {

@@ -8,5 +8,4 @@ pub mod Once
 pub mod Steps
 pub mod Sums
 pub mod Tails
-pub mod Widths
 pub mod Windows

@@ -4,7 +4,7 @@ use mathlib.Core.Logic.{◌⊎◌, inl, inr}
 use mathlib.Core.List.{List, ◌++◌}
 use Prim.Native.Nat.{ℕ, zero, suc, ◌+◌, ◌-◌, ◌*◌, ◌/◌, ◌%◌, ◌^◌, ◌<◌, ◌≤◌}
 use native.Mathlib.Decide.{dec_lt}
-use native.Mathlib.Nat.{suc-mul, lt_of_lt_of_le, le_trans, mul-le-mul_right, mul-suc, zero-mul}
+use native.Mathlib.Nat.{suc-mul, lt_of_lt_of_le, mul-le-mul_right, mul-suc, zero-mul}
 use native.Mathlib.Numerals.{add-one}
 use native.Mathlib.Omega.{arith}
 use lib.Bits.{xor_zero_r}
@@ -26,7 +26,7 @@ use Rattle.method.proofs.Counting.{total_more}
 use Rattle.words.specs.Words.{rows_of}
 use Rattle.engine.specs.declared.Eliminated.{Eliminated}
 use Rattle.engine.specs.Core.{ReducedTo}
-use Rattle.engine.specs.Stage.{Sizes, Applies, AppliesIn, Search, WindowPivots, Numbers, cleared, Windowed}
+use Rattle.engine.specs.Stage.{Sizes, Applies, Search, WindowPivots, Numbers, cleared, Windowed}
 use Rattle.engine.proofs.Steps.{left_of}
 
 -- ---- one window
@@ -228,15 +228,15 @@ words_before : (w n c k base r : ℕ) (M h o cols : List ℕ) → c + k ≤ w * 
 words_before w n c k base r M h o cols hc S i a b =
     cut_zero (64 * (w - (w - c / 64))) (get_or cols i 0) (row M i) (omega (arith, S.here i a b)) (rw (S.pending.mine i a b) at (S.pivots i b))
 
-pub window_applies : {w n c k base r len : ℕ} {m t h o cols h₁ : List ℕ} → Sizes w n len → length m ≡ len → c + k ≤ w * 64 → k ≤ 8 → 2 ^ k * w ≤ length t
+pub window_applies : {w n c k base r : ℕ} {m t h o cols h₁ : List ℕ} → Sizes w n (length m) → c + k ≤ w * 64 → k ≤ 8 → 2 ^ k * w ≤ length t
     → Search n c k k base r (rows_of w n m) h o cols → length h₁ ≡ length h → ((i : ℕ) → i < n → get_or h₁ i 0 < 2 ^ r) → Applies w (w - c / 64) n base r m t h₁
-window_applies {w = w} {n = n} {c = c} {k = k} {base = base} {r = r} {m = m} {h = h} {o = o} {cols = cols} z lm hc hk ht S lh small = record {
-  sizes = record { fits = omega (arith, z.fits, lm); narrow = z.narrow; few = z.few };
+window_applies {w = w} {n = n} {c = c} {k = k} {base = base} {r = r} {m = m} {h = h} {o = o} {cols = cols} z hc hk ht S lh small = record {
+  sizes = z;
   inside = omega arith;
   rows = S.room;
   most = omega (arith, S.few, hk);
   table = omega (arith, ht, table_room r k w S.few);
-  bytes = omega (arith, lh, S.long_h);
+  bytes = omega (arith, lh, S.size_h);
   small = small;
   low = words_before w n c k base r (rows_of w n m) h o cols hc S;
 }
@@ -244,17 +244,6 @@ window_applies {w = w} {n = n} {c = c} {k = k} {base = base} {r = r} {m = m} {h 
 -- what lies past 2 ^ r rows lies past 2 ^ k
 pub table_rest : (r k w : ℕ) (x y : List ℕ) → r ≤ k → drop (2 ^ r * w) x ≡ drop (2 ^ r * w) y → drop (2 ^ k * w) x ≡ drop (2 ^ k * w) y
 table_rest r k w x y h = drop_more (2 ^ r * w) (2 ^ k * w) x y (table_room r k w h)
-
--- ---- matrix and table in one room: n rows, and a or b behind them
-
-pub room_less : (w n a b len : ℕ) → a ≤ b → (n + b) * w ≤ len → (n + a) * w ≤ len
-room_less w n a b len h l = le_trans (mul-le-mul_right w (omega arith)) l
-
-pub room_rows : (w n b len : ℕ) → (n + b) * w ≤ len → n * w ≤ len
-room_rows w n b len l = le_trans (mul-le-mul_right w (omega arith)) l
-
-pub room_drop : (w n b : ℕ) (x y : List ℕ) → drop (n * w) x ≡ drop (n * w) y → drop ((n + b) * w) x ≡ drop ((n + b) * w) y
-room_drop w n b x y = drop_more (n * w) ((n + b) * w) x y (mul-le-mul_right w (omega arith))
 
 -- a table takes at most 255 additions
 pub table_small : (r : ℕ) → r ≤ 8 → table_additions r ≤ 255
@@ -264,22 +253,3 @@ table_small r h = omega (arith, pow_small r h)
 -- the table of a window of at most k <= 8 columns takes few additions
 pub few_additions : {added r kw k : ℕ} → added ≡ table_additions r → r ≤ kw → kw ≤ k → k ≤ 8 → added ≤ 255
 few_additions {added} {r} e few less most = omega (arith, e, table_small r (omega arith))
-
--- the same of a window as over two slices
-pub room_applies : {w n c k base r len : ℕ} {m h o cols h₁ : List ℕ} → Sizes w (n + 2 ^ k) len → length m ≡ len → c + k ≤ w * 64 → k ≤ 8
-    → Search n c k k base r (rows_of w n m) h o cols → length h₁ ≡ length h → ((i : ℕ) → i < n → get_or h₁ i 0 < 2 ^ r) → AppliesIn w (w - c / 64) n base r m h₁
-room_applies {w = w} {n = n} {c = c} {k = k} {base = base} {r = r} {m = m} {h = h} {o = o} {cols = cols} z lm hc hk S lh small =
-    let more : 2 ^ r ≤ 2 ^ k = pow_mono {i = r} {j = k} S.few in
-    record {
-      sizes = record { fits = room_less w n (2 ^ r) (2 ^ k) (length m) more (omega (arith, z.fits, lm)); narrow = z.narrow; few = omega (arith, z.few, more) };
-      inside = omega arith;
-      rows = S.room;
-      most = omega (arith, S.few, hk);
-      bytes = omega (arith, lh, S.long_h);
-      small = small;
-      low = words_before w n c k base r (rows_of w n m) h o cols hc S;
-    }
-
-pub table_rest_in : (n r k w : ℕ) (x y : List ℕ) → r ≤ k → drop ((n + 2 ^ r) * w) x ≡ drop ((n + 2 ^ r) * w) y → drop ((n + 2 ^ k) * w) x ≡ drop ((n + 2 ^ k) * w) y
-table_rest_in n r k w x y h =
-    drop_more ((n + 2 ^ r) * w) ((n + 2 ^ k) * w) x y (mul-le-mul_right w (omega (arith, pow_mono {i = r} {j = k} h)))

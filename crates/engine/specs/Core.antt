@@ -1,9 +1,10 @@
 -- What the core promises to the calls above it.
-use Rattle.std.specs.Prelude.{◌≡◌, false, List, ◌++◌, ℕ, ◌+◌, ◌*◌, ◌^◌, ◌≤◌, length, replicate, drop}
+use Rattle.std.specs.Prelude.{◌≡◌, List, ◌++◌, ℕ, ◌+◌, ◌*◌, ◌^◌, ◌≤◌, length, replicate, drop, Result}
 use Rattle.gf2.specs.Reduced.{ReducedForm, rank, pivot_record}
 use Rattle.gf2.specs.Additions.{additions}
 use Rattle.words.specs.Words.{words_of, rows_of, Clean, zeroed}
-use Rattle.refusals.specs.Outcome.{DoneIf}
+use Rattle.refusals.specs.declared.Unfit.{Unfit}
+use Rattle.refusals.specs.Outcome.{Taken}
 use Rattle.refusals.specs.Checks.{Sized, Window}
 use Rattle.engine.specs.declared.Eliminated.{Eliminated}
 
@@ -31,21 +32,18 @@ pub record ReducedTo (counts : List ℕ → ℕ) (L N : List ℕ) (r : Eliminate
   pub additions_are : r.additions ≡ counts N
   pub pivots_are : list ≡ pivot_record (length list) N
 
-abbrev pub not_done : Eliminated
-not_done = record { done = false; rank = 0; additions = 0 }
-
 -- matrix and table in two slices: then the matrix is reduced, the table's words are zero, and what lies past either is as it was
-abbrev pub TwoSlices : Eliminated → ℕ → ℕ → ℕ → List ℕ → List ℕ → List ℕ → List ℕ → List ℕ → List ℕ → Type 0
+abbrev pub TwoSlices : Result Eliminated Unfit → ℕ → ℕ → ℕ → List ℕ → List ℕ → List ℕ → List ℕ → List ℕ → List ℕ → Type 0
 TwoSlices r rows columns k m t list m' t' list' =
-    DoneIf r.done (Fits rows columns k 0 (length t) (length list) m)
-    (ReducedTo (additions k columns) (rows_of (words_of columns) rows m) (rows_of (words_of columns) rows m') r list'
+    Taken r (Fits rows columns k 0 (length t) (length list) m)
+    (λ e. ReducedTo (additions k columns) (rows_of (words_of columns) rows m) (rows_of (words_of columns) rows m') e list'
     × (drop (rows * words_of columns) m' ≡ drop (rows * words_of columns) m) × (t' ≡ zeroed 0 (2 ^ k * words_of columns) t))
-    ((r ≡ not_done) × (m' ≡ m) × (t' ≡ t) × (list' ≡ list))
+    ((m' ≡ m) × (t' ≡ t) × (list' ≡ list))
 
 -- the table in the 2 ^ k rows behind the matrix
-abbrev pub OneRoom : Eliminated → ℕ → ℕ → ℕ → List ℕ → List ℕ → List ℕ → List ℕ → Type 0
+abbrev pub OneRoom : Result Eliminated Unfit → ℕ → ℕ → ℕ → List ℕ → List ℕ → List ℕ → List ℕ → Type 0
 OneRoom r rows columns k m list m' list' =
-    DoneIf r.done (Fits rows columns k rows (length m) (length list) m)
-    (ReducedTo (additions k columns) (rows_of (words_of columns) rows m) (rows_of (words_of columns) rows m') r list'
+    Taken r (Fits rows columns k rows (length m) (length list) m)
+    (λ e. ReducedTo (additions k columns) (rows_of (words_of columns) rows m) (rows_of (words_of columns) rows m') e list'
     × (drop (rows * words_of columns) m' ≡ replicate (2 ^ k * words_of columns) 0 ++ drop ((rows + 2 ^ k) * words_of columns) m))
-    ((r ≡ not_done) × (m' ≡ m) × (list' ≡ list))
+    ((m' ≡ m) × (list' ≡ list))

@@ -1,20 +1,22 @@
 -- What the engine's loops keep, on lists of rows. No public promise cites any of it.
-use Rattle.std.specs.Prelude.{◌≡◌, ◌≢◌, ◌⊎◌, List, ℕ, ◌+◌, ◌-◌, ◌*◌, ◌/◌, ◌%◌, ◌^◌, ◌≤◌, ◌<◌, length, get_or, set, drop}
+use Rattle.std.specs.Prelude.{◌≡◌, ◌≢◌, ◌⊎◌, List, Option, Some, None, ℕ, ◌+◌, ◌-◌, ◌*◌, ◌/◌, ◌%◌, ◌^◌, ◌≤◌, ◌<◌, length, get_or, set, drop}
 use Rattle.std.proofs.Math.Seq.{paste}
 use Rattle.gf2.specs.Rows.{bit, ◌⊕◌, row, part, pick, combine, RowSpace, SameRowSpace, tabulate}
 use Rattle.gf2.specs.Reduced.{Pivot}
-use Rattle.gf2.specs.Additions.{table_additions}
-use Rattle.words.specs.Words.{value, rows_of, window_bits}
+use Rattle.gf2.specs.Additions.{table_additions, additions}
+use Rattle.words.specs.Words.{value, words_of, rows_of, zeroed, window_bits}
 use Rattle.method.specs.Stage.{Stage, Pending}
 use Rattle.method.specs.Gray.{gray}
+use Rattle.engine.specs.declared.Eliminated.{Eliminated}
+use Rattle.engine.specs.Core.{ReducedTo}
 
 -- ---- rows of words
 
--- n rows of w words stand at the start of a buffer of len words: at most 1,024 of a matrix and, behind them, 256 of a table
+-- n rows of w words stand at the start of a buffer of len words
 pub record Sizes (w n len : ℕ) : Type 0 where
   pub fits : n * w ≤ len
   pub narrow : w ≤ 16
-  pub few : n ≤ 1280
+  pub few : n ≤ 1024
 
 -- the words of row i, and a row put in its place
 abbrev pub row_words : ℕ → ℕ → List ℕ → List ℕ
@@ -45,42 +47,45 @@ pub record Search (n c k x base s : ℕ) (M h o cols : List ℕ) : Type 0 where
   pub few : s ≤ x
   pub full : s ≡ x → (b : ℕ) → b < s → get_or cols (base + b) 0 ≡ c + b
   pub whole : n ≤ length cols
-  pub long_h : n ≤ length h
-  pub long_o : n ≤ length o
+  pub size_h : length h ≡ n
+  pub size_o : length o ≡ n
+
+-- the rows' space, what lies past the rows, and the pivots of the first `base` rows have been kept
+pub record Kept (w n base : ℕ) (m m' cols cols' : List ℕ) : Type 0 where
+  pub space : SameRowSpace (rows_of w n m) (rows_of w n m')
+  pub past : drop (n * w) m' ≡ drop (n * w) m
+  pub old : (i : ℕ) → i < base → get_or cols' i 0 ≡ get_or cols i 0
 
 -- u has a one wherever a number from place `from` on has one
 abbrev pub Union : ℕ → ℕ → List ℕ → ℕ → Type 0
 Union n from o u = (i y : ℕ) → from ≤ i → i < n → bit y u ≡ 0 → bit y (get_or o i 0) ≡ 0
 
--- the first row from place `from` on with a one in column x, or n
-pub record FirstOne (o : List ℕ) (x from n i : ℕ) : Type 0 where
-  pub low : from ≤ i
-  pub high : i ≤ n
-  pub one : i < n → bit x (get_or o i 0) ≡ 1
-  pub none : (j : ℕ) → from ≤ j → j < i → bit x (get_or o j 0) ≡ 0
+-- the first place from `from` on with a one in column x, if there is one
+abbrev pub FirstOne : List ℕ → ℕ → ℕ → Option ℕ → Type 0
+FirstOne o x from (Some i) = (from ≤ i) × (i < length o) × (bit x (get_or o i 0) ≡ 1) × ((j : ℕ) → from ≤ j → j < i → bit x (get_or o j 0) ≡ 0)
+FirstOne o x from None = (j : ℕ) → from ≤ j → j < length o → bit x (get_or o j 0) ≡ 0
 
--- the first l numbers have been cleared in column x by b
-pub record Swept (x b l : ℕ) (o p : List ℕ) : Type 0 where
-  pub done : (i : ℕ) → i < l → get_or p i 0 ≡ get_or o i 0 ⊕ pick (bit x (get_or o i 0)) b
-  pub rest : (i : ℕ) → l ≤ i → get_or p i 0 ≡ get_or o i 0
+-- each number has been cleared in column x by b
+abbrev pub Swept : ℕ → ℕ → List ℕ → List ℕ → Type 0
+Swept x b o p = (i : ℕ) → i < length o → get_or p i 0 ≡ get_or o i 0 ⊕ pick (bit x (get_or o i 0)) b
 
 -- the window's pivot rows, each with its own column
 pub record Own (w base s : ℕ) (M cols : List ℕ) : Type 0 where
-  pub wide : (b : ℕ) → b < s → get_or cols (base + b) 0 / 64 < w
-  pub one : (b : ℕ) → b < s → bit (get_or cols (base + b) 0) (row M (base + b)) ≡ 1
-  pub clean : (b d : ℕ) → b < s → d < s → b ≢ d → bit (get_or cols (base + b) 0) (row M (base + d)) ≡ 0
+  pub wide : (j : ℕ) → base ≤ j → j < base + s → get_or cols j 0 / 64 < w
+  pub one : (j : ℕ) → base ≤ j → j < base + s → bit (get_or cols j 0) (row M j) ≡ 1
+  pub clean : (i j : ℕ) → base ≤ i → i < base + s → base ≤ j → j < base + s → i ≢ j → bit (get_or cols i 0) (row M j) ≡ 0
 
--- row i has become v: pivot rows have been added until their first l columns are zero
-pub record Settled (base s l i : ℕ) (M cols N : List ℕ) : Type 0 where
+-- row i has become v: pivot rows have been added until the columns of those below place p are zero
+pub record Settled (base s p i : ℕ) (M cols N : List ℕ) : Type 0 where
   pub v : ℕ
   pub put : N ≡ set M i v
   pub space : RowSpace (part base s M) (row M i ⊕ v)
-  pub clear : (b : ℕ) → b < l → bit (get_or cols (base + b) 0) v ≡ 0
+  pub clear : (j : ℕ) → base ≤ j → j < p → bit (get_or cols j 0) v ≡ 0
 
--- row base + s has been added to those of the first l pivot rows that have a one in column c
-pub record Lifted (c base s l : ℕ) (M N : List ℕ) : Type 0 where
-  pub up : (j : ℕ) → base ≤ j → j < base + l → row N j ≡ row M j ⊕ pick (bit c (row M j)) (row M (base + s))
-  pub kept : (j : ℕ) → (j < base) ⊎ (base + l ≤ j) → row N j ≡ row M j
+-- row base + s has been added to those pivot rows below place p that have a one in column c
+pub record Lifted (c base s p : ℕ) (M N : List ℕ) : Type 0 where
+  pub up : (j : ℕ) → base ≤ j → j < p → row N j ≡ row M j ⊕ pick (bit c (row M j)) (row M (base + s))
+  pub kept : (j : ℕ) → (j < base) ⊎ (p ≤ j) → row N j ≡ row M j
 
 -- ---- the table
 
@@ -111,10 +116,16 @@ pub record WindowPivots (c k base r : ℕ) (cols : List ℕ) : Type 0 where
   pub high : (b : ℕ) → b < r → get_or cols (base + b) 0 < c + k
   pub full : r ≡ k → (b : ℕ) → b < r → get_or cols (base + b) 0 ≡ c + b
 
--- bit b of y says whether x has a one in the column of pivot b, counted from c
-pub record Gathered (c base r : ℕ) (cols : List ℕ) (x y : ℕ) : Type 0 where
+-- at most 8 columns, all among the 8 from c on
+pub record PivotsNear (c : ℕ) (pivots : List ℕ) : Type 0 where
+  pub few : length pivots ≤ 8
+  pub low : (b : ℕ) → b < length pivots → c ≤ get_or pivots b 0
+  pub high : (b : ℕ) → b < length pivots → get_or pivots b 0 < c + 8
+
+-- for each of the first r columns, bit b of y says whether x has a one in column b of these, counted from c
+pub record Gathered (c r : ℕ) (pivots : List ℕ) (x y : ℕ) : Type 0 where
   pub small : y < 2 ^ r
-  pub named : (b : ℕ) → b < r → (q : ℕ) → c + q ≡ get_or cols (base + b) 0 → bit b y ≡ bit q x
+  pub named : (b : ℕ) → b < r → (q : ℕ) → c + q ≡ get_or pivots b 0 → bit b y ≡ bit q x
 
 -- for each row the number of the table row that clears it; 0 for the window's pivot rows
 pub record Numbers (n base r : ℕ) (M o cols : List ℕ) : Type 0 where
@@ -132,7 +143,7 @@ unfoldable pub added : ℕ → List ℕ → (ℕ → ℕ) → List ℕ → List 
 unfolding tabulate pick
 added z o T M = tabulate (length M) (λ i. row M i ⊕ pick (get_or o i 0) (T (get_or o i 0) * 2 ^ (64 * z)))
 
--- what making a table of the last v words of r rows from base on and clearing by it needs, and what it leaves: table in a slice of its own
+-- what making a table of the last v words of r rows from base on and clearing by it needs, and what it leaves
 pub record Applies (w v n base r : ℕ) (m t o : List ℕ) : Type 0 where
   pub sizes : Sizes w n (length m)
   pub inside : v ≤ w
@@ -148,21 +159,6 @@ pub record Applied (w n base r : ℕ) (m t o m' t' : List ℕ) (additions : ℕ)
   pub rest : drop (2 ^ r * w) t' ≡ drop (2 ^ r * w) t
   pub count : additions ≡ table_additions r
 
--- the same in one room, where the table is behind the n rows
-pub record AppliesIn (w v n base r : ℕ) (m o : List ℕ) : Type 0 where
-  pub sizes : Sizes w (n + 2 ^ r) (length m)
-  pub inside : v ≤ w
-  pub rows : base + r ≤ n
-  pub most : r ≤ 8
-  pub bytes : n ≤ length o
-  pub small : (i : ℕ) → i < n → get_or o i 0 < 2 ^ r
-  pub low : (i : ℕ) → base ≤ i → i < base + r → row (rows_of w n m) i % 2 ^ (64 * (w - v)) ≡ 0
-
-pub record AppliedIn (w n base r : ℕ) (m o m' : List ℕ) (additions : ℕ) : Type 0 where
-  pub rows : rows_of w n m' ≡ cleared o (part base r (rows_of w n m)) (rows_of w n m)
-  pub rest : drop ((n + 2 ^ r) * w) m' ≡ drop ((n + 2 ^ r) * w) m
-  pub count : additions ≡ table_additions r
-
 -- ---- what a window leaves: r pivots more
 
 pub record Windowed (n c k base r : ℕ) (L N cols cols' : List ℕ) : Type 0 where
@@ -171,3 +167,10 @@ pub record Windowed (n c k base r : ℕ) (L N cols cols' : List ℕ) : Type 0 wh
   pub old : (i : ℕ) → i < base → get_or cols' i 0 ≡ get_or cols i 0
   pub here : (i : ℕ) → base ≤ i → i < base + r → c ≤ get_or cols' i 0
   pub few : r ≤ k
+
+-- ---- what the whole leaves, wherever the table is: the matrix at the start of m reduced, what lies past it as it was, and the table's words zero
+
+pub record Reduces (r : Eliminated) (rows columns k : ℕ) (m t m' t' list' : List ℕ) : Type 0 where
+  pub matrix : ReducedTo (additions k columns) (rows_of (words_of columns) rows m) (rows_of (words_of columns) rows m') r list'
+  pub past : drop (rows * words_of columns) m' ≡ drop (rows * words_of columns) m
+  pub table : t' ≡ zeroed 0 (2 ^ k * words_of columns) t

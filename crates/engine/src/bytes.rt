@@ -1,100 +1,56 @@
 // A byte for each row: the columns of one window.
-ghost use Rattle.std.specs.Prelude.{◌≡◌, ℕ, ◌+◌, ◌≤◌, ◌<◌, length, get_or};
-ghost use Rattle.engine.specs.Stage.{Union, FirstOne, Swept, WindowPivots, Gathered};
+ghost use Rattle.std.specs.Prelude.{ℕ, ◌≤◌, ◌<◌, length, get_or};
+ghost use Rattle.engine.specs.Stage.{Union, FirstOne, Swept, PivotsNear, Gathered};
 
-// the bytes from place `from` to place `to` become 0
-pub(crate) fn blank(o: &mut [u8], from: usize, to: usize)
-    requires { (from ≤ to) × (to ≤ length o.old) }
-    ensures { ((i : ℕ) → from ≤ i → i < to → get_or o.new i 0 ≡ 0) × ((i : ℕ) → i < from → get_or o.new i 0 ≡ get_or o.old i 0) × ((i : ℕ) → to ≤ i → get_or o.new i 0 ≡ get_or o.old i 0) }
-{
-    let mut i = from;
-    while i < to {
-        o[i] = 0;
-        i += 1;
-    }
-}
-
-// the bytes from place `from` to place `to` become those of h
-pub(crate) fn copy_bytes(o: &mut [u8], h: &[u8], from: usize, to: usize)
-    requires { (from ≤ to) × (to ≤ length o.old) × (to ≤ length h.now) }
-    ensures { ((i : ℕ) → from ≤ i → i < to → get_or o.new i 0 ≡ get_or h.now i 0) × ((i : ℕ) → i < from → get_or o.new i 0 ≡ get_or o.old i 0) }
-{
-    let mut i = from;
-    while i < to {
-        o[i] = h[i];
-        i += 1;
-    }
-}
-
-// the first row from place `from` on whose bit x is one: n if none
-pub(crate) fn find(o: &[u8], x: usize, from: usize, n: usize) -> usize
-    requires { (x < 8) × (from ≤ n) × (n ≤ length o.now) }
-    ensures { FirstOne o.now x from n result }
-{
-    let mut i = from;
-    while i < n {
-        if (o[i] >> x) % 2 == 1 {
-            return i;
-        }
-        i += 1;
-    }
-    i
-}
-
-// bit x is cleared by b in the first n bytes; answers their union. The range is always whole: one that varies costs mispredicted branches
-pub(crate) fn sweep(o: &mut [u8], x: usize, b: u8, n: usize) -> u8
-    requires { (x < 8) × (n ≤ length o.old) }
-    ensures { Swept x b n o.old o.new × Union n 0 o.new result }
+// the first place from `from` on where bit x is one. Apart, so that the loop counts nothing else
+#[inline(never)]
+#[tactic(auto, using(crate::proofs::ByteLaws::is_set, crate::proofs::ByteLaws::is_clear))]
+pub(crate) fn find(o: &[u8], x: usize, from: usize) -> Option<usize>
+    requires { (x < 8) × (from ≤ length o.now) }
+    ensures { FirstOne o.now x from result }
 {
     let one = 1u8 << x;
-    let mut u = 0u8;
-    let mut i = 0;
-    while i < n {
-        let v = if o[i] & one == 0 { o[i] } else { o[i] ^ b };
-        o[i] = v;
-        u = u | v;
-        i += 1;
+    for i in from..o.len() {
+        if o[i] & one != 0 {
+            return Some(i);
+        }
     }
-    u
+    None
 }
 
-pub(crate) fn wide(x: u16) -> usize
-    ensures { result ≡ x }
+// bit x is cleared by b in each byte; answers their union
+pub(crate) fn sweep(o: &mut [u8], x: usize, b: u8) -> u8
+    requires { x < 8 }
+    ensures { Swept x b o.old o.new × Union (length o.new) 0 o.new result }
 {
-    x as usize
+    let one = 1u8 << x;
+    let mut union = 0;
+    for v in o.iter_mut() {
+        *v = if *v & one == 0 { *v } else { *v ^ b };
+        union |= *v;
+    }
+    union
 }
 
-// the number that the window's bits x name, pivot by pivot
-fn gather(x: u8, cols: &[u16], base: usize, c: usize, k: usize, r: usize) -> u8
-    requires { (base + r ≤ length cols.now) × (k ≤ 8) × (r ≤ k) × WindowPivots c k base r cols.now }
-    ensures { Gathered c base r cols.now x result }
+// the number that bits of x name, pivot by pivot: those of the pivots' columns, counted from c
+fn gather(x: u8, pivots: &[u16], c: usize) -> u8
+    requires { PivotsNear c pivots.now }
+    ensures { Gathered c (length pivots.now) pivots.now x result }
 {
-    let mut y = 0u8;
-    let mut b = 0;
-    while b < r {
-        let q = wide(cols[base + b]) - c;
-        y = y | (((x >> q) % 2) << b);
-        b += 1;
+    let mut y = 0;
+    for (b, pivot) in pivots.iter().enumerate() {
+        let q = usize::from(*pivot) - c;
+        y |= ((x >> q) % 2) << b;
     }
     y
 }
 
-// each of the first n bytes becomes the number that it names
-pub(crate) fn gather_all(
-    o: &mut [u8],
-    n: usize,
-    cols: &[u16],
-    base: usize,
-    c: usize,
-    k: usize,
-    r: usize,
-)
-    requires { (n ≤ length o.old) × (base + r ≤ length cols.now) × (k ≤ 8) × (r ≤ k) × WindowPivots c k base r cols.now }
-    ensures { (i : ℕ) → i < n → Gathered c base r cols.now (get_or o.old i 0) (get_or o.new i 0) }
+// each byte becomes the number that it names
+pub(crate) fn gather_all(o: &mut [u8], pivots: &[u16], c: usize)
+    requires { PivotsNear c pivots.now }
+    ensures { (i : ℕ) → i < length o.old → Gathered c (length pivots.now) pivots.now (get_or o.old i 0) (get_or o.new i 0) }
 {
-    let mut i = 0;
-    while i < n {
-        o[i] = gather(o[i], cols, base, c, k, r);
-        i += 1;
+    for x in o.iter_mut() {
+        *x = gather(*x, pivots, c);
     }
 }

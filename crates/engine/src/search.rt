@@ -1,187 +1,155 @@
 // The search for a window's pivots: on two bytes a row, the window's bits that it has (h) and those that it will have (o, 0 for a used row).
-// Words of a row are touched only where that row is chosen.
-ghost use Rattle.std.specs.Prelude.{◌≡◌, ℕ, ◌+◌, ◌*◌, ◌/◌, ◌≤◌, ◌<◌, length, set, get_or, drop};
-ghost use Rattle.gf2.specs.Rows.{bit, row, SameRowSpace};
-ghost use Rattle.words.specs.Words.{rows_of, value, window_bits};
+// Words of a row are touched only where that row is chosen. Then the numbers: for each row that of the table row which clears it.
+ghost use Rattle.std.specs.Prelude.{◌≡◌, ℕ, ◌+◌, ◌*◌, ◌≤◌, ◌<◌, length, get_or, drop};
+ghost use Rattle.gf2.specs.Rows.{bit, row};
+ghost use Rattle.words.specs.Words.{rows_of, window_bits};
 ghost use Rattle.method.specs.Stage.{Stage};
-ghost use Rattle.engine.specs.Stage.{Sizes, row_words, Search, Union, Own, Settled, Lifted, WindowPivots, Numbers};
+ghost use Rattle.engine.specs.Stage.{Search, Kept, Union, Own, Settled, Lifted, WindowPivots, Numbers};
 
 use super::{bytes, rows};
 
+// a window, with what is true of its numbers
+#[derive(Clone, Copy)]
+pub(crate) struct Window {
+    // words of a row
+    pub(crate) w: usize,
+    // rows
+    pub(crate) n: usize,
+    // the first column
+    pub(crate) c: usize,
+    // columns
+    pub(crate) k: usize,
+    // rows, the first ones, that have their pivots left of the window
+    pub(crate) base: usize,
+    ghost narrow: { w ≤ 16 },
+    ghost few: { n ≤ 1024 },
+    ghost some: { 0 < k },
+    ghost most: { k ≤ 8 },
+    ghost inside: { c + k ≤ w * 64 },
+    ghost left: { base ≤ n },
+}
+
 // the union of what the rows not yet used will have, and the number of pivots found
 #[derive(Clone, Copy)]
-pub(crate) struct Seen {
-    pub(crate) union: u8,
-    pub(crate) found: usize,
+struct Seen {
+    union: u8,
+    found: usize,
 }
 
-fn byte(m: &[u64], w: usize, i: usize, c: usize, k: usize) -> u8
-    requires { (c + k ≤ w * 64) × (0 < k) × (k ≤ 8) × (i * w + w ≤ length m.now) }
-    ensures { result ≡ window_bits c k (value (row_words i w m.now)) }
-{
-    rows::bits(m, w, i, c, k) as u8
-}
+impl Window {
+    // the window's bits of rows `from` to `to`; answers their union
+    fn read(self, m: &[u64], from: usize, to: usize, h: &mut [u8]) -> u8
+        requires { (self.n * self.w ≤ length m.now) × (from ≤ to) × (to ≤ self.n) × (length h.old ≡ self.n) }
+        ensures { ((i : ℕ) → from ≤ i → i < to → get_or h.new i 0 ≡ window_bits self.c self.k (row (rows_of self.w self.n m.now) i)) × ((i : ℕ) → to ≤ i → get_or h.new i 0 ≡ get_or h.old i 0) × Union to from h.new result }
+    {
+        let mut union = 0;
+        for i in from..to {
+            let bits = rows::bits(m, self.w, i, self.c, self.k) as u8;
+            h[i] = bits;
+            union |= bits;
+        }
+        union
+    }
 
-// the window's bits of rows `from` to `to`; answers their union
-fn read(
-    m: &[u64],
-    w: usize,
-    n: usize,
-    c: usize,
-    k: usize,
-    from: usize,
-    to: usize,
-    h: &mut [u8],
-) -> u8
-    requires { Sizes w n (length m.now) × (c + k ≤ w * 64) × (0 < k) × (k ≤ 8) × (from ≤ to) × (to ≤ n) × (n ≤ length h.old) }
-    ensures { ((i : ℕ) → from ≤ i → i < to → get_or h.new i 0 ≡ window_bits c k (row (rows_of w n m.now) i)) × ((i : ℕ) → to ≤ i → get_or h.new i 0 ≡ get_or h.old i 0) × Union to from h.new result }
-{
-    let mut u = 0u8;
-    let mut i = from;
-    while i < to {
-        let b = byte(m, w, i, c, k);
-        h[i] = b;
-        u = u | b;
-        i += 1;
+    // row i is cleared by the window's first s pivot rows
+    fn settle(self, m: &mut [u64], s: usize, cols: &[u16], i: usize)
+        requires { (self.n * self.w ≤ length m.old) × (self.base + s ≤ i) × (i < self.n) × (self.n ≤ length cols.now) × Own self.w self.base s (rows_of self.w self.n m.old) cols.now }
+        ensures { Settled self.base s (self.base + s) i (rows_of self.w self.n m.old) cols.now (rows_of self.w self.n m.new) × (drop (self.n * self.w) m.new ≡ drop (self.n * self.w) m.old) }
+    {
+        for p in self.base..self.base + s {
+            rows::clear_row(m, self.w, self.n, usize::from(cols[p]), p, i);
+        }
     }
-    u
-}
 
-// row i is cleared by the window's pivot rows
-fn settle(m: &mut [u64], w: usize, n: usize, base: usize, s: usize, cols: &[u16], i: usize)
-    requires { Sizes w n (length m.old) × (base + s ≤ i) × (i < n) × (n ≤ length cols.now) × Own w base s (rows_of w n m.old) cols.now }
-    ensures { Settled base s s i (rows_of w n m.old) cols.now (rows_of w n m.new) × (drop (n * w) m.new ≡ drop (n * w) m.old) }
-{
-    let mut l = 0;
-    while l < s {
-        let c = bytes::wide(cols[base + l]);
-        rows::clear_row(m, w, n, c, base + l, i);
-        l += 1;
+    // column c + x of the window's first s pivot rows is cleared by the next
+    fn lift(self, m: &mut [u64], x: usize, s: usize)
+        requires { (self.n * self.w ≤ length m.old) × (self.base + s < self.n) × (x < self.k) }
+        ensures { Lifted (self.c + x) self.base s (self.base + s) (rows_of self.w self.n m.old) (rows_of self.w self.n m.new) × (drop (self.n * self.w) m.new ≡ drop (self.n * self.w) m.old) }
+    {
+        let by = self.base + s;
+        for p in self.base..by {
+            rows::clear_row(m, self.w, self.n, self.c + x, by, p);
+        }
     }
-}
 
-// column c of the window's earlier pivot rows is cleared by the new one
-fn lift(m: &mut [u64], w: usize, n: usize, c: usize, base: usize, s: usize)
-    requires { Sizes w n (length m.old) × (base + s < n) × (c / 64 < w) }
-    ensures { Lifted c base s s (rows_of w n m.old) (rows_of w n m.new) × (drop (n * w) m.new ≡ drop (n * w) m.old) }
-{
-    let mut l = 0;
-    while l < s {
-        rows::clear_row(m, w, n, c, base + s, base + l);
-        l += 1;
+    // row i becomes the pivot row of column c + x
+    fn take(
+        self,
+        m: &mut [u64],
+        x: usize,
+        s: usize,
+        i: usize,
+        h: &mut [u8],
+        o: &mut [u8],
+        cols: &mut [u16],
+    ) -> u8
+        requires { (self.n * self.w ≤ length m.old) × (x < self.k) × (self.base + s ≤ i) × (i < self.n) × (bit x (get_or o.old i 0) ≡ 1) × Search self.n self.c self.k x self.base s (rows_of self.w self.n m.old) h.old o.old cols.old }
+        ensures { Search self.n self.c self.k (x + 1) self.base (s + 1) (rows_of self.w self.n m.new) h.new o.new cols.new × Union self.n 0 o.new result × Kept self.w self.n self.base m.old m.new cols.old cols.new }
+    {
+        let p = self.base + s;
+        self.settle(m, s, cols, i);
+        rows::exchange(m, self.w, self.n, i, p);
+        self.lift(m, x, s);
+        cols[p] = (self.c + x) as u16;
+        let b = o[i];
+        o[i] = o[p];
+        o[p] = 0;
+        h[i] = h[p];
+        bytes::sweep(o, x, b)
     }
-}
 
-// row i becomes the pivot row of column c + x
-fn take(
-    m: &mut [u64],
-    w: usize,
-    n: usize,
-    c: usize,
-    k: usize,
-    x: usize,
-    base: usize,
-    s: usize,
-    i: usize,
-    h: &mut [u8],
-    o: &mut [u8],
-    cols: &mut [u16],
-) -> u8
-    requires { Sizes w n (length m.old) × (c + k ≤ w * 64) × (x < k) × (k ≤ 8) × (base + s ≤ i) × (i < n) × (bit x (get_or o.old i 0) ≡ 1) × Search n c k x base s (rows_of w n m.old) h.old o.old cols.old }
-    ensures { Search n c k (x + 1) base (s + 1) (rows_of w n m.new) h.new o.new cols.new × Union n 0 o.new result × SameRowSpace (rows_of w n m.old) (rows_of w n m.new) × (cols.new ≡ set cols.old (base + s) (c + x)) × (drop (n * w) m.new ≡ drop (n * w) m.old) }
-{
-    settle(m, w, n, base, s, cols, i);
-    let p = base + s;
-    rows::exchange(m, w, n, i, p);
-    lift(m, w, n, c + x, base, s);
-    cols[p] = (c + x) as u16;
-    let b = o[i];
-    o[i] = o[p];
-    o[p] = 0;
-    h[i] = h[p];
-    bytes::sweep(o, x, b, n)
-}
+    // column c + x gets its pivot row, if a row not yet used will have a one in it
+    fn column(
+        self,
+        m: &mut [u64],
+        x: usize,
+        seen: Seen,
+        h: &mut [u8],
+        o: &mut [u8],
+        cols: &mut [u16],
+    ) -> Seen
+        requires { (self.n * self.w ≤ length m.old) × (x < self.k) × Search self.n self.c self.k x self.base seen.found (rows_of self.w self.n m.old) h.old o.old cols.old × Union self.n (self.base + seen.found) o.old seen.union }
+        ensures { Search self.n self.c self.k (x + 1) self.base result.found (rows_of self.w self.n m.new) h.new o.new cols.new × Union self.n (self.base + result.found) o.new result.union × Kept self.w self.n self.base m.old m.new cols.old cols.new }
+    {
+        let s = seen.found;
+        if (seen.union >> x) % 2 == 0 {
+            return seen;
+        }
+        match bytes::find(o, x, self.base + s) {
+            Some(i) => Seen {
+                union: self.take(m, x, s, i, h, o, cols),
+                found: s + 1,
+            },
+            // cannot be, for the union is exact; what is proved of it is only that it misses no one
+            None => seen,
+        }
+    }
 
-// column c + x of the window
-fn column(
-    m: &mut [u64],
-    w: usize,
-    n: usize,
-    c: usize,
-    k: usize,
-    x: usize,
-    base: usize,
-    a: Seen,
-    h: &mut [u8],
-    o: &mut [u8],
-    cols: &mut [u16],
-) -> Seen
-    requires { Sizes w n (length m.old) × (c + k ≤ w * 64) × (x < k) × (k ≤ 8) × Search n c k x base a.found (rows_of w n m.old) h.old o.old cols.old × Union n (base + a.found) o.old a.union }
-    ensures { Search n c k (x + 1) base result.found (rows_of w n m.new) h.new o.new cols.new × Union n (base + result.found) o.new result.union × SameRowSpace (rows_of w n m.old) (rows_of w n m.new) × ((i : ℕ) → i < base → get_or cols.new i 0 ≡ get_or cols.old i 0) × (drop (n * w) m.new ≡ drop (n * w) m.old) }
-{
-    let u = a.union;
-    let s = a.found;
-    if (u >> x) % 2 == 0 {
-        return a;
+    // the pivots are found among all rows from base on: how many
+    pub(crate) fn search(self, m: &mut [u64], h: &mut [u8], o: &mut [u8], cols: &mut [u16]) -> usize
+        requires { (self.n * self.w ≤ length m.old) × (length h.old ≡ self.n) × (length o.old ≡ self.n) × Stage self.n self.c self.base (rows_of self.w self.n m.old) cols.old }
+        ensures { Search self.n self.c self.k self.k self.base result (rows_of self.w self.n m.new) h.new o.new cols.new × Kept self.w self.n self.base m.old m.new cols.old cols.new }
+    {
+        let union = self.read(m, self.base, self.n, h);
+        o.copy_from_slice(h);
+        o[..self.base].fill(0);
+        let mut seen = Seen { union, found: 0 };
+        for x in 0..self.k {
+            seen = self.column(m, x, seen, h, o, cols);
+        }
+        seen.found
     }
-    let i = bytes::find(o, x, base + s, n);
-    // cannot be, for the union is exact; what is proved of it is only that it misses no one
-    if i == n {
-        return a;
-    }
-    let v = take(m, w, n, c, k, x, base, s, i, h, o, cols);
-    Seen {
-        union: v,
-        found: s + 1,
-    }
-}
 
-// the pivots of the window of k columns from c are found among all rows from base on: how many
-pub(crate) fn search(
-    m: &mut [u64],
-    w: usize,
-    n: usize,
-    c: usize,
-    k: usize,
-    base: usize,
-    h: &mut [u8],
-    o: &mut [u8],
-    cols: &mut [u16],
-) -> usize
-    requires { Sizes w n (length m.old) × (c + k ≤ w * 64) × (0 < k) × (k ≤ 8) × (n ≤ length h.old) × (n ≤ length o.old) × Stage n c base (rows_of w n m.old) cols.old }
-    ensures { Search n c k k base result (rows_of w n m.new) h.new o.new cols.new × SameRowSpace (rows_of w n m.old) (rows_of w n m.new) × ((i : ℕ) → i < base → get_or cols.new i 0 ≡ get_or cols.old i 0) × (drop (n * w) m.new ≡ drop (n * w) m.old) }
-{
-    bytes::blank(o, 0, base);
-    let u = read(m, w, n, c, k, base, n, h);
-    bytes::copy_bytes(o, h, base, n);
-    let mut a = Seen { union: u, found: 0 };
-    let mut x = 0;
-    while x < k {
-        a = column(m, w, n, c, k, x, base, a, h, o, cols);
-        x += 1;
+    // h, which has the window's bits of the rows behind the r pivot rows, becomes the numbers of all rows
+    pub(crate) fn numbers(self, m: &[u64], r: usize, h: &mut [u8], cols: &[u16])
+        requires { (self.n * self.w ≤ length m.now) × (r ≤ self.k) × (self.base + r ≤ self.n) × (length h.old ≡ self.n) × (self.n ≤ length cols.now) × WindowPivots self.c self.k self.base r cols.now × ((i : ℕ) → self.base + r ≤ i → i < self.n → get_or h.old i 0 ≡ window_bits self.c self.k (row (rows_of self.w self.n m.now) i)) }
+        ensures { Numbers self.n self.base r (rows_of self.w self.n m.now) h.new cols.now }
+    {
+        self.read(m, 0, self.base, h);
+        // where every column of the window has a pivot, the bits are the number already
+        if r != self.k {
+            bytes::gather_all(h, &cols[self.base..self.base + r], self.c);
+        }
+        h[self.base..self.base + r].fill(0);
     }
-    a.found
-}
-
-// h, which has the window's bits of the rows behind the pivot rows, becomes the numbers of all rows
-pub(crate) fn numbers(
-    m: &[u64],
-    w: usize,
-    n: usize,
-    c: usize,
-    k: usize,
-    base: usize,
-    r: usize,
-    h: &mut [u8],
-    cols: &[u16],
-)
-    requires { Sizes w n (length m.now) × (c + k ≤ w * 64) × (0 < k) × (k ≤ 8) × (r ≤ k) × (base + r ≤ n) × (n ≤ length h.old) × (n ≤ length cols.now) × WindowPivots c k base r cols.now × ((i : ℕ) → base + r ≤ i → i < n → get_or h.old i 0 ≡ window_bits c k (row (rows_of w n m.now) i)) }
-    ensures { Numbers n base r (rows_of w n m.now) h.new cols.now }
-{
-    read(m, w, n, c, k, 0, base, h);
-    // where every column of the window has a pivot, the bits are the number already
-    if r != k {
-        bytes::gather_all(h, n, cols, base, c, k, r);
-    }
-    bytes::blank(h, base, base + r);
 }

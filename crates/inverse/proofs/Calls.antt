@@ -1,7 +1,8 @@
 -- The inverse past its checks, by what is read off the reduced matrix beside an identity.
-use mathlib.Core.Path.{◌≡◌, sym, ap, ◌∙◌, subst}
+use mathlib.Core.Path.{◌≡◌, refl, sym, ap, ◌∙◌, subst}
 use mathlib.Core.Logic.{inl, inr}
-use mathlib.Core.Bool.{Bool}
+use mathlib.Core.Bool.{Bool, true, false}
+use Rattle.std.specs.Prelude.{Result, Ok, Err}
 use mathlib.Core.List.{List}
 use Prim.Native.Nat.{ℕ, ◌+◌, ◌*◌, ◌^◌, min}
 use native.Mathlib.Nat.{add-mul}
@@ -12,24 +13,21 @@ use Rattle.gf2.proofs.Inverse.{begins_true, right_half, inverse_exists}
 use Rattle.words.specs.Words.{words_of, rows_of, zeroed}
 use Rattle.words.proofs.Rows.{length_rows}
 use Rattle.refusals.specs.declared.Refusal.TheVariants.{NoInverse}
-use Rattle.refusals.specs.declared.Outcome.{Outcome}
-use Rattle.refusals.specs.declared.Outcome.TheVariants.{Done, Refused}
+use Rattle.refusals.specs.declared.Unfit.{Unfit}
+use Rattle.refusals.specs.Outcome.{Outcome}
 use Rattle.refusals.specs.Checks.{InversePasses}
 use Rattle.beside.specs.Beside.{FitsBeside, Beside, BesideReduced, BesideCleared}
 use Rattle.beside.proofs.Room.{room_reduced, room_clean, room_cleared}
-use Rattle.readoff.specs.declared.Reading.{Reading}
-use Rattle.readoff.specs.declared.Reading.TheVariants as reading
 use Rattle.readoff.specs.ReadOff.{Halves, Halved}
 use Rattle.readoff.proofs.Clean.{half_rows}
 use Rattle.inverse.specs.Calls.{Inverted}
 
 -- what is read tells the answer
-abbrev pub answer_for : Reading → Outcome
-answer_for reading.Present = Done
-answer_for reading.Absent = Refused NoInverse
-answer_for reading.Unfit = Refused NoInverse
+abbrev pub answer_for : Bool → Outcome
+answer_for true = Ok tt
+answer_for false = Err NoInverse
 
-module _ (n k : ℕ) (m result room room₁ : List ℕ) (passes : InversePasses n n k m (length result) (length room)) (done : Bool) (b : BesideReduced done n n k m room room₁)
+module _ (n k : ℕ) (m result room room₁ : List ℕ) (passes : InversePasses n n k m (length result) (length room)) (done : Result (Unit {0}) Unfit) (b : BesideReduced done n n k m room room₁)
     (l : length room₁ ≡ length room) where
   abbrev A : List ℕ
   A = rows_of (words_of n) n m
@@ -59,12 +57,11 @@ module _ (n k : ℕ) (m result room room₁ : List ℕ) (passes : InversePasses 
     fitting = passes.fitting;
   }
 
-  pub inverted : (result' : List ℕ) (read : Reading) (r : Outcome) → Halved read n room₁ result result' → r ≡ answer_for read → Inverted n m result r result'
-  inverted result' reading.Present r h a =
+  pub inverted : (result' : List ℕ) (exists : Bool) → Halved (Ok exists) n room₁ result result' → Inverted n m result (answer_for exists) result'
+  inverted result' true h =
       let read = half_rows n room₁ result' (room_clean n n k m room room₁ passes.clean beside) h.1 in
-      inl (a, rw read (right_half n A N square beside.form ((begins_true n N).0 h.0.1)))
-  inverted result' reading.Absent r h a = inr (a, (λ X i. h.0.1 ((inverse_exists n A N square beside.form).0 (X, i))), h.1)
-  inverted result' reading.Unfit r h a = absurd (h.0 halves)
+      inl (refl, rw read (right_half n A N square beside.form ((begins_true n N).0 h.0.1)))
+  inverted result' false h = inr (refl, (λ X i. h.0.1 ((inverse_exists n A N square beside.form).0 (X, i))), h.1)
 
   pub cleared : (room' : List ℕ) (w : ℕ) → w ≡ words_of (n + n) → room' ≡ zeroed 0 (min (n * w) (length room₁)) room₁ → BesideCleared n n k room room'
   cleared room' w ew z =

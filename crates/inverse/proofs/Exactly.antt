@@ -8,8 +8,8 @@ use lib.ListN.{length}
 use Rattle.gf2.specs.Inverse.{Inverse}
 use Rattle.words.specs.Words.{words_of, rows_of}
 use Rattle.refusals.specs.declared.Refusal.TheVariants.{NoInverse}
-use Rattle.refusals.specs.declared.Outcome.{Outcome}
-use Rattle.refusals.specs.declared.Outcome.TheVariants.{Done, Refused}
+use Rattle.refusals.specs.Outcome.{Outcome}
+use Rattle.std.specs.Prelude.{Ok, Err}
 use Rattle.refusals.specs.Checks.{inverse_checks}
 use Rattle.refusals.proofs.Chain.{by_promise}
 use Rattle.refusals.proofs.Never.{inverse_never}
@@ -28,7 +28,7 @@ module _ (rows columns k : ℕ) (m result room : List ℕ) (r : Outcome) (result
   Exists = (X : List ℕ) × Inverse rows A X
 
   -- what the answer says: a check has refused; or past the checks an inverse is given, or there is none
-  answer_is : ((r ≡ Done) ↔ ((checks ≡ Done) × Exists)) × ((r ≡ Refused NoInverse) ↔ ((checks ≡ Done) × (Exists → ⊥)))
+  answer_is : ((r ≡ Ok tt) ↔ ((checks ≡ Ok tt) × Exists)) × ((r ≡ Err NoInverse) ↔ ((checks ≡ Ok tt) × (Exists → ⊥)))
   answer_is =
       by_promise promise
       (λ x e a. (
@@ -37,8 +37,8 @@ module _ (rows columns k : ℕ) (m result room : List ℕ) (r : Outcome) (result
       ))
       (λ e a. past e a.0)
     where
-      past : checks ≡ Done → Inverted rows m result r result'
-          → ((r ≡ Done) ↔ ((checks ≡ Done) × Exists)) × ((r ≡ Refused NoInverse) ↔ ((checks ≡ Done) × (Exists → ⊥)))
+      past : checks ≡ Ok tt → Inverted rows m result r result'
+          → ((r ≡ Ok tt) ↔ ((checks ≡ Ok tt) × Exists)) × ((r ≡ Err NoInverse) ↔ ((checks ≡ Ok tt) × (Exists → ⊥)))
       past e (inl g) =
           let found : Exists = (rows_of (words_of rows) rows result', g.1) in (
             ((λ d. (e, found)), λ t. g.0),
@@ -50,8 +50,8 @@ module _ (rows columns k : ℕ) (m result room : List ℕ) (r : Outcome) (result
             ((λ n. (e, none)), λ t. g.0),
           )
 
-  pub given_exactly : (r ≡ Done) ↔ ((checks ≡ Done) × Exists)
+  pub given_exactly : (r ≡ Ok tt) ↔ ((checks ≡ Ok tt) × Exists)
   given_exactly = answer_is.0
 
-  pub nine_exactly : (r ≡ Refused NoInverse) ↔ ((checks ≡ Done) × (Exists → ⊥))
+  pub nine_exactly : (r ≡ Err NoInverse) ↔ ((checks ≡ Ok tt) × (Exists → ⊥))
   nine_exactly = answer_is.1

@@ -7,8 +7,8 @@ use lib.ListN.{length}
 use Rattle.gf2.proofs.Inverse.{one_inverse}
 use Rattle.words.specs.Words.{Slice, words_of, rows_of}
 use Rattle.words.proofs.Slices.{same_slice}
-use Rattle.refusals.specs.declared.Outcome.{Outcome}
-use Rattle.refusals.specs.declared.Outcome.TheVariants.{Done}
+use Rattle.refusals.specs.Outcome.{Outcome}
+use Rattle.std.specs.Prelude.{Ok}
 use Rattle.refusals.specs.Checks.{inverse_checks}
 use Rattle.refusals.proofs.Chain.{by_promise}
 use Rattle.refusals.proofs.Passed.{inverse_passed}
@@ -22,8 +22,8 @@ module _ (rows columns : ℕ) (m result result' result₂ : List ℕ) (s : Slice
   one_answer r r₂ l (inr d) (inl g) = absurd (d.1 (rows_of (words_of rows) rows result₂) g.1)
 
   -- two runs that pass their checks, whatever k and work room each has
-  pub any_k : (k k₂ : ℕ) (room room₂ room' room₂' : List ℕ) (r r₂ : Outcome) → inverse_checks rows columns k m (length result) (length room) ≡ Done
-      → inverse_checks rows columns k₂ m (length result) (length room₂) ≡ Done → InversionPromised rows columns k m result room r result' room' → InversionPromised rows columns k₂ m result room₂ r₂ result₂ room₂'
+  pub any_k : (k k₂ : ℕ) (room room₂ room' room₂' : List ℕ) (r r₂ : Outcome) → inverse_checks rows columns k m (length result) (length room) ≡ Ok tt
+      → inverse_checks rows columns k₂ m (length result) (length room₂) ≡ Ok tt → InversionPromised rows columns k m result room r result' room' → InversionPromised rows columns k₂ m result room₂ r₂ result₂ room₂'
       → (r ≡ r₂) × (result' ≡ result₂)
   any_k k k₂ room room₂ room' room₂' r r₂ e e₂ p q =
       let passes = inverse_passed rows columns k m (length result) (length room) e in

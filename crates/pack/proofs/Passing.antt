@@ -1,21 +1,17 @@
 -- The writer's checks refuse nothing exactly if what passing means holds; and each of their answers.
-use mathlib.Core.Path.{◌≡◌, refl, sym, ap, ◌∙◌}
+use mathlib.Core.Path.{refl, sym, ap}
 use mathlib.Core.Bool.{not}
-use mathlib.Core.List.{List, [], ◌∷◌, ◌++◌}
-use mathlib.Core.Logic.{◌≢◌}
-use Prim.Native.Nat.{ℕ, ◌≤◌}
-use lib.ListN.{length, drop}
-use borrow.Author.Tests.{le-ltb, eq-eqb, ne_eqb, not-false}
-use Rattle.refusals.specs.declared.Refusal.{Refusal}
-use Rattle.refusals.specs.declared.Outcome.{Outcome}
-use Rattle.refusals.specs.declared.Outcome.TheVariants.{Done, Refused}
-use Rattle.refusals.specs.Outcome.{◌and_then◌, first}
+use mathlib.Core.List.{List, [], ◌∷◌}
+use Prim.Native.Nat.{ℕ}
+use lib.ListN.{length}
+use borrow.Author.Tests.{not-false}
+use Rattle.words.specs.Words.{Fit}
+use Rattle.refusals.specs.Outcome.{Outcome, ◌and_then◌}
 use Rattle.refusals.proofs.Chain.{Passes, then_done, done_then, passing, passed}
 use Rattle.refusals.proofs.Passed.{if_done, done_if, same_done, done_same}
 use Rattle.bundle.specs.Bundle.{bad_shape}
 use Rattle.bundle.proofs.Passing.{most_done, done_most, some_done, done_some}
-use Rattle.pack.specs.Writing.{given, shapes_checks, all_words, all_narrow, bundle_bytes, rest_order, write_order, write_checks, Writable, written_by, output_by}
-use Rattle.pack.specs.declared.Written.TheVariants as written
+use Rattle.pack.specs.Writing.{given, shapes_checks, all_words, all_narrow, bundle_bytes, rest_order, write_order, write_checks, Writable}
 use Rattle.pack.specs.Steps.{any_kind, Checked}
 
 -- shapes that pass under a rule pass whatever the kinds
@@ -29,8 +25,8 @@ shapes_any rule (k ∷ ks) (r ∷ rs) (c ∷ cs) e =
     done_then (then_done (rule k) (bad_shape r c) s.0).1 (shapes_any rule ks rs cs s.1)
 
 module _ (rule : ℕ → Outcome) (ks rs cs ws : List ℕ) (room : ℕ) where
-  pub checked : Writable rule ks rs cs ws room → Checked ks rs cs ws
-  checked w = record { rows_too = w.rows_too; columns_too = w.columns_too; few = w.few; shapes = shapes_any rule ks rs cs w.shapes; words_fit = w.words_fit }
+  pub checked : Writable rule ks rs cs ws room → Fit ws → Checked ks rs cs ws
+  checked w f = record { rows_too = w.rows_too; columns_too = w.columns_too; few = w.few; shapes = shapes_any rule ks rs cs w.shapes; words_fit = w.words_fit; fit = f }
 
   abbrev size : ℕ
   size = bundle_bytes (length ks) (length ws)
@@ -51,9 +47,6 @@ module _ (rule : ℕ → Outcome) (ks rs cs ws : List ℕ) (room : ℕ) where
         fits = most_done _ room size fits;
       }) rest)
 
-  pub write_short : (o : Outcome) → o ≡ write_checks rule ks rs cs ws room → o ≡ Done → bundle_bytes (length ks) (length ws) ≤ 65535
-  write_short o e z = (writable (sym e ∙ z)).short
-
   pub write_passes : Writable rule ks rs cs ws room → Passes (write_checks rule ks rs cs ws room)
   unfolding write_order rest_order
   write_passes w =
@@ -68,21 +61,3 @@ module _ (rule : ℕ → Outcome) (ks rs cs ws : List ℕ) (room : ℕ) where
       (done_if _ (ap not w.clean))
       (done_most _ 65535 size w.short)
       (done_most _ room size w.fits))
-
--- the checks before the rest have passed, and the rest decides
-pub write_goes : (rule : ℕ → Outcome) (ks rs cs ws : List ℕ) (room : ℕ) (o v : Outcome) → length rs ≡ length ks → length cs ≡ length ks → length ks ≢ 0 → length ks ≤ 64
-    → o ≡ shapes_checks rule ks rs cs → o ≡ Done → v ≡ first (rest_order ks rs cs ws room) → v ≡ write_checks rule ks rs cs ws room
-unfolding write_order
-write_goes rule ks rs cs ws room o v er ec ne few eo z e =
-    e ∙ simp (eq-eqb (length rs) (length ks) er, eq-eqb (length cs) (length ks) ec, ne_eqb (length ks) 0 ne, le-ltb 64 (length ks) few, ← eo, z)
-
--- ---- what is answered, and what the output then holds
-
-module _ (o checks : Outcome) (e : o ≡ checks) (n : ℕ) (b out : List ℕ) where
-  pub says_refused : (r : Refusal) → o ≡ Refused r → (written.Refused r ≡ written_by checks n) × (out ≡ output_by checks b out)
-  unfolding written_by output_by
-  says_refused r z = (sym (ap (λ (x : Outcome). written_by x n) (sym e ∙ z)), sym (ap (λ (x : Outcome). output_by x b out) (sym e ∙ z)))
-
-  pub says_done : {out' : List ℕ} → o ≡ Done → out' ≡ b ++ drop (length b) out → (written.Bytes n ≡ written_by checks n) × (out' ≡ output_by checks b out)
-  unfolding written_by output_by
-  says_done z w = (sym (ap (λ (x : Outcome). written_by x n) (sym e ∙ z)), w ∙ sym (ap (λ (x : Outcome). output_by x b out) (sym e ∙ z)))

@@ -1,12 +1,14 @@
 -- Bytes put in place of others: laws of `splice`, and what the loops that put numbers and words leave to be put.
-use mathlib.Core.Path.{◌≡◌, sym, ap, ap₂, ◌∙◌}
+use mathlib.Core.Path.{◌≡◌, refl, sym, ap, ap₂, ◌∙◌}
 use mathlib.Core.List.{List, [], ◌∷◌, ◌++◌, append_assoc}
-use Prim.Native.Nat.{ℕ, suc, ◌+◌, ◌-◌, ◌*◌, ◌/◌, ◌%◌, ◌<◌, ◌≤◌}
-use native.Mathlib.Nat.{zero-add}
+use Prim.Native.Nat.{ℕ, zero, suc, ◌+◌, ◌-◌, ◌*◌, ◌/◌, ◌%◌, ◌^◌, ◌<◌, ◌≤◌}
+use native.Mathlib.Nat.{zero-add, div-div-eq-div-mul, pow-suc}
 use native.Mathlib.Numerals.{add-one}
 use native.Mathlib.Omega.{arith}
-use lib.ListN.{length, take, drop, get_or, set, length-append, length-drop, take-append-drop}
-use lib.Seq.{drop-cons, take-suc-set, drop-set-lt, drop-drop, length-take-le, take_at, drop_at, append_snoc}
+use lib.ListN.{length, take, drop, get_or, length-append, length-drop, take-append-drop, drop_of_length-le}
+use lib.Seq.{drop-cons, drop-drop, length-take-le, take_at, drop_at}
+use borrow.Rule.Slice.PartMut.{put_mid}
+use Rattle.std.specs.Int.{byte_at, bytes_low_first}
 use Rattle.wire.specs.Bytes.{bytes_of}
 use Rattle.wire.specs.Kinds.{order, bytes_of_words}
 use Rattle.wire.proofs.Bytes.{length_bytes}
@@ -20,16 +22,6 @@ unfolding splice
 splice_none p out =
     let z : p + 0 ≡ p = omega arith in
     ap (λ (k : ℕ). take p out ++ drop k out) z ∙ take-append-drop p out
-
-splice_cons : (p v : ℕ) (xs out : List ℕ) → p < length out → splice p (v ∷ xs) out ≡ splice (p + 1) xs (set out p v)
-unfolding splice
-splice_cons p v xs out h =
-    let e₁ : take (p + 1) (set out p v) ≡ take p out ++ (v ∷ []) = ap (λ (k : ℕ). take k (set out p v)) (add-one p) ∙ take-suc-set out p v h in
-    let e₂ : p + suc (length xs) ≡ p + 1 + length xs = omega arith in
-    let e₃ : drop (p + 1 + length xs) (set out p v) ≡ drop (p + 1 + length xs) out = drop-set-lt (p + 1 + length xs) out p v (omega arith) in
-    ap (λ (k : ℕ). take p out ++ (v ∷ (xs ++ drop k out))) e₂
-    ∙ sym (append_snoc (take p out) v (xs ++ drop (p + 1 + length xs) out))
-    ∙ ap₂ (λ (a d : List ℕ). a ++ (xs ++ d)) (sym e₁) (sym e₃)
 
 pub splice_append : (p : ℕ) (xs ys out : List ℕ) → p ≤ length out → splice p (xs ++ ys) out ≡ splice (p + length xs) ys (splice p xs out)
 unfolding splice
@@ -60,29 +52,33 @@ length_splice p xs out h =
     length-append (take p out) (xs ++ drop (p + length xs) out) ∙ ap (λ (k : ℕ). length (take p out) + k) (length-append xs (drop (p + length xs) out))
     ∙ omega (arith, length-take-le p out (omega arith), length-drop (p + length xs) out)
 
--- ---- the bytes of a number: f is the output to come, i bytes are put, and y is what is left of the number
+-- ---- the bytes of a number
 
-pub number_start : (out : List ℕ) (p k x : ℕ) → splice p (bytes_of k x) out ≡ splice (p + 0) (bytes_of (k - 0) x) out
-number_start out p k x =
-    let a : p ≡ p + 0 = omega arith in
-    let c : k ≡ k - 0 = omega arith in
-    ap₂ (λ (i j : ℕ). splice i (bytes_of j x) out) a c
+-- the library's bytes of a number, from byte i on, are its digits
+low_bytes : (n i x : ℕ) → bytes_low_first i n x ≡ bytes_of n (x / 256 ^ i)
+unfolding bytes_of
+low_bytes zero i x = refl
+low_bytes (suc n) i x =
+    ap₂ ◌∷◌ (byte i) (low_bytes n (suc i) x ∙ ap (bytes_of n) (sym (div-div-eq-div-mul x (256 ^ i) 256 ∙ ap (λ (m : ℕ). x / m) (sym (pow-suc 256 i)))))
+  where
+    byte : (i : ℕ) → byte_at i x ≡ x / 256 ^ i % 256
+    byte zero = omega arith
+    byte (suc i) = refl
 
-module _ {f : List ℕ} (out : List ℕ) (p k i y : ℕ) (e : f ≡ splice (p + i) (bytes_of (k - i) y) out) where
-  pub number_turn : {v : ℕ} → i < k → p + k ≤ length out → v ≡ y % 256 → f ≡ splice (p + (i + 1)) (bytes_of (k - (i + 1)) (y / 256)) (set out (p + i) v)
-  unfolding bytes_of
-  number_turn h r ev =
-      let m : k - i ≡ suc (k - (i + 1)) = omega arith in
-      let q : p + i + 1 ≡ p + (i + 1) = omega arith in
-      e ∙ ap (λ (j : ℕ). splice (p + i) (bytes_of j y) out) m
-      ∙ splice_cons (p + i) (y % 256) (bytes_of (k - (i + 1)) (y / 256)) out (omega arith)
-      ∙ ap₂ (λ (j w : ℕ). splice j (bytes_of (k - (i + 1)) (y / 256)) (set out (p + i) w)) q (sym ev)
+take_bytes : (k n x : ℕ) → k ≤ n → take k (bytes_of n x) ≡ bytes_of k x
+unfolding bytes_of
+take_bytes zero n x h = refl
+take_bytes (suc k) zero x h = absurd (omega arith)
+take_bytes (suc k) (suc n) x h = ap (λ (l : List ℕ). x % 256 ∷ l) (take_bytes k n (x / 256) (omega arith))
 
-  pub number_end : k ≤ i → out ≡ f
-  unfolding bytes_of
-  number_end h =
-      let m : k - i ≡ 0 = omega arith in
-      sym (e ∙ ap (λ (j : ℕ). splice (p + i) (bytes_of j y) out) m ∙ splice_none (p + i) out)
+-- the k lowest of them written in place of others are spliced in
+pub number_put : (out : List ℕ) (p k x : ℕ) (l : List ℕ) → l ≡ take k (bytes_low_first 0 8 x) → k ≤ 8 → put_mid p ((p + k) - p) out l ≡ splice p (bytes_of k x) out
+unfolding splice
+number_put out p k x l e h =
+    let o : x / 1 ≡ x = omega arith in
+    let el : l ≡ bytes_of k x = e ∙ ap (take k) (low_bytes 8 0 x ∙ ap (bytes_of 8) o) ∙ take_bytes k 8 x h in
+    let z : p + ((p + k) - p) ≡ p + length (bytes_of k x) = omega (arith, length_bytes k x) in
+    ap₂ (λ (a b : List ℕ). take p out ++ (a ++ b)) el (drop-drop ((p + k) - p) p out ∙ ap (λ (j : ℕ). drop j out) z)
 
 -- ---- an entry's ten bytes
 
@@ -108,43 +104,29 @@ head_steps p k r c o out h =
     ∙ splice_append (p + 4) d (bytes_of 4 o) o₂ (omega arith)
     ∙ ap (λ (x : ℕ). splice x (bytes_of 4 o) (splice (p + 4) d o₂)) ld)
 
--- ---- words: f is the output to come, and j of n words are put
+-- ---- words: f is the output to come, and j of them are put
 
 pub drop_next : (l : List ℕ) (i : ℕ) → i < length l → drop i l ≡ get_or l i 0 ∷ drop (i + 1) l
 drop_next l i h = drop-cons l i 0 h ∙ ap (λ (k : ℕ). get_or l i 0 ∷ drop k l) (sym (add-one i))
 
-pub words_start : (out ws : List ℕ) (p kind a n : ℕ)
-    → splice p (bytes_of_words kind (take n (drop a ws))) out ≡ splice (p + 8 * 0) (bytes_of_words kind (take (n - 0) (drop (a + 0) ws))) out
-words_start out ws p kind a n =
-    let e₁ : p ≡ p + 8 * 0 = omega arith in
-    let e₂ : n ≡ n - 0 = omega arith in
-    let e₃ : a ≡ a + 0 = omega arith in
-    ap (λ (k : ℕ). splice k (bytes_of_words kind (take n (drop a ws))) out) e₁
-    ∙ ap₂ (λ (i j : ℕ). splice (p + 8 * 0) (bytes_of_words kind (take i (drop j ws))) out) e₂ e₃
-
-module _ {f : List ℕ} (out ws : List ℕ) (p kind a n j : ℕ) (e : f ≡ splice (p + 8 * j) (bytes_of_words kind (take (n - j) (drop (a + j) ws))) out) where
-  pub words_turn : {out' : List ℕ} {x : ℕ} → j < n → p + 8 * n ≤ length out → a + n ≤ length ws
-      → x ≡ order kind (get_or ws (a + j) 0) → out' ≡ splice (p + 8 * j) (bytes_of 8 x) out
-      → f ≡ splice (p + 8 * (j + 1)) (bytes_of_words kind (take (n - (j + 1)) (drop (a + (j + 1)) ws))) out'
+module _ {f : List ℕ} (out ws : List ℕ) (p kind j : ℕ) (e : f ≡ splice (p + 8 * j) (bytes_of_words kind (drop j ws)) out) where
+  pub words_turn : {out' : List ℕ} {x : ℕ} → j < length ws → p + 8 * length ws ≤ length out
+      → x ≡ order kind (get_or ws j 0) → out' ≡ splice (p + 8 * j) (bytes_of 8 x) out
+      → f ≡ splice (p + 8 * (j + 1)) (bytes_of_words kind (drop (j + 1) ws)) out'
   unfolding bytes_of_words
-  words_turn h r s ex eo =
-      let m : n - j ≡ suc (n - (j + 1)) = omega arith in
-      let q : a + j + 1 ≡ a + (j + 1) = omega arith in
-      let w : ℕ = get_or ws (a + j) 0 in
-      let t : List ℕ = take (n - (j + 1)) (drop (a + (j + 1)) ws) in
-      let cut : take (n - j) (drop (a + j) ws) ≡ w ∷ t =
-      ap₂ take m (drop_next ws (a + j) (omega arith)) ∙ ap (λ (k : ℕ). w ∷ take (n - (j + 1)) (drop k ws)) q in
+  words_turn h r ex eo =
+      let w : ℕ = get_or ws j 0 in
+      let t : List ℕ = drop (j + 1) ws in
       let l : p + 8 * j + length (bytes_of 8 (order kind w)) ≡ p + 8 * (j + 1) =
       ap (λ (k : ℕ). p + 8 * j + k) (length_bytes 8 (order kind w)) ∙ omega arith in
-      e ∙ ap (λ (z : List ℕ). splice (p + 8 * j) (bytes_of_words kind z) out) cut
+      e ∙ ap (λ (z : List ℕ). splice (p + 8 * j) (bytes_of_words kind z) out) (drop_next ws j h)
       ∙ splice_append (p + 8 * j) (bytes_of 8 (order kind w)) (bytes_of_words kind t) out (omega arith)
       ∙ ap₂ (λ (k : ℕ) (o : List ℕ). splice k (bytes_of_words kind t) o) l (ap (λ (y : ℕ). splice (p + 8 * j) (bytes_of 8 y) out) (sym ex) ∙ sym eo)
 
-  pub words_end : n ≤ j → out ≡ f
+  pub words_end : length ws ≤ j → out ≡ f
   unfolding bytes_of_words
   words_end h =
-      let m : n - j ≡ 0 = omega arith in
-      sym (e ∙ ap (λ (k : ℕ). splice (p + 8 * j) (bytes_of_words kind (take k (drop (a + j) ws))) out) m ∙ splice_none (p + 8 * j) out)
+      sym (e ∙ ap (λ (z : List ℕ). splice (p + 8 * j) (bytes_of_words kind z) out) (drop_of_length-le ws {i = j} h) ∙ splice_none (p + 8 * j) out)
 
 -- ---- count, contents and bodies, one after the other, are the bundle
 

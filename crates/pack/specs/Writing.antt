@@ -1,19 +1,12 @@
 -- What the writer writes and answers.
-use Rattle.std.specs.Prelude.{◌≡◌, Bool, true, not, ◌&&◌, List, [], ◌∷◌, ◌++◌, ℕ, ◌+◌, ◌*◌, ◌<◌, ◌≤◌, eqb, ltb, length, drop}
+use Rattle.std.specs.Prelude.{◌≡◌, Bool, true, not, ◌&&◌, List, [], ◌∷◌, ◌++◌, ℕ, ◌+◌, ◌*◌, ◌<◌, ◌≤◌, eqb, ltb, length, drop, Result, Ok, Err}
+use Rattle.std.specs.Result.{result_and}
 use Rattle.words.specs.Words.{words_of, rows_of, narrow}
+use Rattle.refusals.specs.declared.Refusal.{Refusal}
 use Rattle.refusals.specs.declared.Refusal.TheVariants.{WrongLength, DirtyPadding, WrongBuffer, EntryCount, ShortOutput, BundleOver}
-use Rattle.refusals.specs.declared.Outcome.{Outcome}
-use Rattle.refusals.specs.declared.Outcome.TheVariants as outcome
-use Rattle.refusals.specs.Outcome.{number_of, refuse_if, ◌and_then◌, first}
+use Rattle.refusals.specs.Outcome.{Outcome, refuse_if, ◌and_then◌, first}
 use Rattle.bundle.specs.Bundle.{Entry, body_words, head_bytes, bad_shape}
 use Rattle.pack.specs.Encode.{encode}
-use Rattle.pack.specs.declared.Written.{Written}
-use Rattle.pack.specs.declared.Written.TheVariants.{Bytes, Refused}
-
--- the number of an answer: 0 where nothing is refused
-abbrev pub written_number : Written → ℕ
-written_number (Bytes n) = 0
-written_number (Refused r) = number_of r
 
 -- the entries that the lists give: each takes its rows from the front of the words
 unfoldable pub given : List ℕ → List ℕ → List ℕ → List ℕ → List Entry
@@ -27,9 +20,9 @@ given (k ∷ ks) (r ∷ rs) (c ∷ cs) ws =
 
 -- kind and shape, entry by entry
 unfoldable pub shapes_checks : (ℕ → Outcome) → List ℕ → List ℕ → List ℕ → Outcome
-shapes_checks rule [] rs cs = outcome.Done
-shapes_checks rule (k ∷ ks) [] cs = outcome.Done
-shapes_checks rule (k ∷ ks) (r ∷ rs) [] = outcome.Done
+shapes_checks rule [] rs cs = Ok tt
+shapes_checks rule (k ∷ ks) [] cs = Ok tt
+shapes_checks rule (k ∷ ks) (r ∷ rs) [] = Ok tt
 shapes_checks rule (k ∷ ks) (r ∷ rs) (c ∷ cs) = rule k and_then bad_shape r c and_then shapes_checks rule ks rs cs
 
 -- the words of all bodies
@@ -78,7 +71,7 @@ pub record Writable (rule : ℕ → Outcome) (ks rs cs ws : List ℕ) (room : �
   pub columns_too : length cs ≡ length ks
   pub any : 0 < length ks
   pub few : length ks ≤ 64
-  pub shapes : shapes_checks rule ks rs cs ≡ outcome.Done
+  pub shapes : shapes_checks rule ks rs cs ≡ Ok tt
   pub words_fit : all_words rs cs ≡ length ws
   pub clean : all_narrow (given ks rs cs ws) ≡ true
   pub short : bundle_bytes (length ks) (length ws) ≤ 65535
@@ -86,17 +79,16 @@ pub record Writable (rule : ℕ → Outcome) (ks rs cs ws : List ℕ) (room : �
 
 -- ---- what is answered, and what the output then holds
 
-unfoldable pub written_by : Outcome → ℕ → Written
-written_by outcome.Done n = Bytes n
-written_by (outcome.Refused r) n = Refused r
+unfoldable pub written_by : Outcome → ℕ → Result ℕ Refusal
+written_by o n = result_and o (Ok n)
 
 -- the bundle, and past it what stood there; or the output as it was
 unfoldable pub output_by : Outcome → List ℕ → List ℕ → List ℕ
-output_by outcome.Done b out = b ++ drop (length b) out
-output_by (outcome.Refused r) b out = out
+output_by (Ok t) b out = b ++ drop (length b) out
+output_by (Err r) b out = out
 
 -- the writer's answer, and the output, under a rule for kinds
-abbrev pub written : (ℕ → Outcome) → List ℕ → List ℕ → List ℕ → List ℕ → ℕ → Written
+abbrev pub written : (ℕ → Outcome) → List ℕ → List ℕ → List ℕ → List ℕ → ℕ → Result ℕ Refusal
 written rule ks rs cs ws room = written_by (write_checks rule ks rs cs ws room) (bundle_bytes (length ks) (length ws))
 
 abbrev pub output : (ℕ → Outcome) → List ℕ → List ℕ → List ℕ → List ℕ → List ℕ → List ℕ

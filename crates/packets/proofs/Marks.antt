@@ -1,6 +1,7 @@
 -- What solving promises of images leaves no choice, and depends on which images meet the packets alone.
 use mathlib.Core.Path.{◌≡◌, sym, ap, ◌∙◌}
 use mathlib.Core.Logic.{◌⊎◌, inl, inr}
+use Rattle.std.specs.Prelude.{Result}
 use mathlib.Core.List.{List}
 use Prim.Native.Nat.{ℕ, ◌<◌}
 use native.Mathlib.Decide.{ℕ_discrete}
@@ -11,12 +12,15 @@ use Rattle.gf2.specs.Rows.{row}
 use Rattle.images.specs.Packets.{MeetsAll, Agreed, Among}
 use Rattle.images.specs.ReadOff.{marked}
 use Rattle.images.proofs.Meeting.{meets_among}
+use Rattle.refusals.specs.Outcome.{outcome_of}
+use Rattle.refusals.specs.declared.Refusal.{Refusal}
 use Rattle.matrix.specs.declared.Answer.{Answer}
+use Rattle.matrix.specs.Calls.{figures}
 use Rattle.packets.specs.Solving.{Alike, Solved}
 
 -- equal answers are alike
-pub alike : {r r₂ : Answer} → r ≡ r₂ → Alike r r₂
-alike e = (ap (λ (x : Answer). x.outcome) e, ap (λ (x : Answer). x.rank) e, ap (λ (x : Answer). x.known) e, ap (λ (x : Answer). x.pivots) e)
+pub alike : {r r₂ : Result Answer Refusal} → r ≡ r₂ → Alike r r₂
+alike e = (ap outcome_of e, ap (λ (x : Result Answer Refusal). (figures x).rank) e, ap (λ (x : Result Answer Refusal). (figures x).known) e, ap (λ (x : Result Answer Refusal). (figures x).pivots) e)
 
 -- each block is marked 1 or 0
 mark_cases : {unknown n p : ℕ} {L image marks : List ℕ} {known : ℕ} → Solved unknown n p L image marks known → (j : ℕ) → j < n → (row marks j ≡ 1) ⊎ (row marks j ≡ 0)

@@ -1,7 +1,8 @@
 -- The contradiction call past its checks, by what is read off the reduced packets beside an identity.
 use mathlib.Core.Path.{◌≡◌, refl, sym, ap, ◌∙◌, subst}
 use mathlib.Core.Logic.{◌⊎◌, inl, inr}
-use mathlib.Core.Bool.{Bool}
+use mathlib.Core.Bool.{Bool, true, false}
+use Rattle.std.specs.Prelude.{Result, Ok}
 use mathlib.Core.List.{List}
 use Prim.Native.Nat.{ℕ, ◌+◌, ◌-◌, ◌*◌, ◌/◌, ◌^◌, ◌<◌, min}
 use native.Mathlib.Nat.{add-mul}
@@ -16,11 +17,10 @@ use Rattle.words.specs.Words.{value, words_of, rows_of, zeroed}
 use Rattle.images.specs.ReadOff.{pivot_row, PivotIn, NoPivotIn, has_pivot, named}
 use Rattle.images.proofs.Found.{found_cases, found_not_zero}
 use Rattle.images.proofs.Named.{found_names, missing_none, none_exactly, named_narrow}
+use Rattle.refusals.specs.declared.Unfit.{Unfit}
 use Rattle.refusals.specs.Checks.{ContradictionPasses}
 use Rattle.beside.specs.Beside.{FitsBeside, Beside, BesideReduced, BesideCleared}
 use Rattle.beside.proofs.Room.{room_reduced, room_clean, room_cleared}
-use Rattle.readoff.specs.declared.Reading.{Reading}
-use Rattle.readoff.specs.declared.Reading.TheVariants as reading
 use Rattle.readoff.specs.ReadOff.{RightFits, RightRead}
 use Rattle.readoff.proofs.Clean.{right_number}
 use Rattle.packets.specs.declared.Verdict.{Verdict}
@@ -49,12 +49,11 @@ unfolding named
 named_is n p R = refl
 
 -- what is read tells the answer
-abbrev pub verdict_for : Reading → Verdict
-verdict_for reading.Present = Named
-verdict_for reading.Absent = None
-verdict_for reading.Unfit = None
+abbrev pub verdict_for : Bool → Verdict
+verdict_for true = Named
+verdict_for false = None
 
-module _ (rows columns n k : ℕ) (m names room room₁ : List ℕ) (passes : ContradictionPasses rows columns n k m (length names) (length room)) (done : Bool)
+module _ (rows columns n k : ℕ) (m names room room₁ : List ℕ) (passes : ContradictionPasses rows columns n k m (length names) (length room)) (done : Result (Unit {0}) Unfit)
     (b : BesideReduced done rows columns k m room room₁) (l : length room₁ ≡ length room) where
   abbrev L : List ℕ
   L = rows_of (words_of columns) rows m
@@ -99,14 +98,14 @@ module _ (rows columns n k : ℕ) (m names room room₁ : List ℕ) (passes : Co
       z ∙ ap (λ (x : ℕ). zeroed 0 (min (rows * x) (length room₁)) room₁) ew
       ∙ room_cleared rows k (words_of (columns + rows)) room room₁ passes.roomy l beside.behind
 
-  pub judged : (names' : List ℕ) (read : Reading) (r : Verdict) → RightRead read rows (columns + rows) n columns room₁ names names' → r ≡ verdict_for read → Judged rows columns n m names r names'
-  judged names' reading.Present r h a =
+  pub judged : (names' : List ℕ) (any : Bool) → RightRead (Ok any) rows (columns + rows) n columns room₁ names names' → Judged rows columns n m names (Ok (verdict_for any)) names'
+  judged names' true h =
       let t : PivotIn n (n + p) N = pivot_found n (n + p) N (subst (λ (x : ℕ). T (has_pivot n x N)) payload_end h.0.1) in
       let clean = room_clean rows columns k m room room₁ passes.clean beside in
       let read = right_number rows (columns + rows) room₁ clean n columns names' (omega arith) h.1 in
       let is : value names' ≡ named n p N = read ∙ ap (λ (x : ℕ). pivot_row n x N / 2 ^ x) payload_end ∙ sym (named_is n p N) in
       inl (
-        a,
+        refl,
         record {
           form = N;
           reduced = form;
@@ -115,7 +114,6 @@ module _ (rows columns n k : ℕ) (m names room room₁ : List ℕ) (passes : Co
           contradicts = rw is (found_names n p L N narrow form.reduced form.space t);
         },
       )
-  judged names' reading.Absent r h a =
+  judged names' false h =
       let t : NoPivotIn n (n + p) N = pivot_missing n (n + p) N (subst (λ (x : ℕ). T (has_pivot n x N) → ⊥) payload_end h.0.1) in
-      inr (a, (none_exactly n p L N narrow form.reduced form.space).0 (missing_none n p L N narrow form.reduced form.space t), h.1)
-  judged names' reading.Unfit r h a = absurd (h.0 fit)
+      inr (refl, (none_exactly n p L N narrow form.reduced form.space).0 (missing_none n p L N narrow form.reduced form.space t), h.1)

@@ -1,9 +1,10 @@
 -- One call of solving, so that the calls of two lists of packets can be compared.
-use Rattle.std.specs.Prelude.{◌≡◌, ◌⊎◌, List, ℕ, ◌-◌, length}
+use Rattle.std.specs.Prelude.{◌≡◌, ◌⊎◌, List, ℕ, ◌-◌, length, Result, Ok, Err}
 use Rattle.gf2.specs.Rows.{row}
 use Rattle.words.specs.Words.{words_of, rows_of}
+use Rattle.refusals.specs.declared.Refusal.{Refusal}
 use Rattle.refusals.specs.declared.Refusal.TheVariants as refusal
-use Rattle.refusals.specs.declared.Outcome.TheVariants.{Done, Refused}
+use Rattle.refusals.specs.Outcome.{outcome_of}
 use Rattle.refusals.specs.Checks.{solving_checks}
 use Rattle.matrix.specs.declared.Answer.{Answer}
 use Rattle.packets.specs.Solving.{Alike, SolvingPromised}
@@ -16,12 +17,12 @@ pub record Call (columns n : ℕ) : Type 0 where
   pub image : List ℕ
   pub marks : List ℕ
   pub room : List ℕ
-  pub answer : Answer
+  pub answer : Result Answer Refusal
   pub m' : List ℕ
   pub image' : List ℕ
   pub marks' : List ℕ
   pub room' : List ℕ
-  pub passed : solving_checks rows columns n k m (length image) (length marks) (length room) ≡ Done
+  pub passed : solving_checks rows columns n k m (length image) (length marks) (length room) ≡ Ok tt
   pub promise : SolvingPromised rows columns n k m image marks room answer m' image' marks' room'
   pub marks_long : length marks' ≡ length marks
 
@@ -38,10 +39,10 @@ module _ {columns n : ℕ} where
 
   -- refused as contradictory, and answered
   abbrev pub IsRefused : Call columns n → Type 0
-  IsRefused c = c.answer.outcome ≡ Refused refusal.Contradictory
+  IsRefused c = outcome_of c.answer ≡ Err refusal.Contradictory
 
   abbrev pub IsAnswered : Call columns n → Type 0
-  IsAnswered c = c.answer.outcome ≡ Done
+  IsAnswered c = outcome_of c.answer ≡ Ok tt
 
   -- two calls end alike: their answers differ in the table additions at most, and not even in these if they have one k; both are refused as contradictory,
   -- or both are answered, with the same marks and the same blocks

@@ -9,8 +9,8 @@ use native.Mathlib.Omega.{arith}
 use lib.ListN.{length, get_or, take, drop, take-append-drop, length-drop}
 use lib.Seq.{paste, ext_get_or, length-paste, take_at, drop_at, drop-drop}
 use Rattle.gf2.specs.Rows.{part, tabulate}
-use Rattle.words.specs.Words.{first_words, flat}
-use Rattle.words.proofs.First.{length_first}
+use Rattle.words.specs.Words.{Fit, value, first_words, flat}
+use Rattle.words.proofs.First.{length_first, words_first}
 use Rattle.words.proofs.Parts.{Apart, length_part, get_or_part, part_same, paste_before, paste_in, paste_after}
 use Rattle.words.proofs.Rows.{row_ends, apart}
 
@@ -56,6 +56,10 @@ module _ (v n b : ℕ) (f : ℕ → ℕ) (d d' : List ℕ) (i x : ℕ) (hi : i <
           ∙ ap (first_words v) (ex ∙ ap f (sym s))
       go (no s) = part_other v n i d (first_words v x) hi full (length_first v x) j (omega arith) s ∙ others j h s
 
+-- words that are read as a number
+pub stored_words : (a : ℕ) (d ws : List ℕ) → Fit ws → paste d a ws (length ws) ≡ paste d a (first_words (length ws) (value ws)) (length ws)
+stored_words a d ws f = ap (λ (x : List ℕ). paste d a x (length ws)) (words_first ws f)
+
 -- ---- all rows
 
 -- row j past the first one is row j of the rest
@@ -84,16 +88,3 @@ flat_laid v (suc n) f (suc j) h =
     sym (part_rest v j (first_words v (f 0) ++ flat v (tabulate n (λ i. f (suc i)))))
     ∙ ap (part (j * v) v) (drop_at (first_words v (f 0)) (flat v (tabulate n (λ i. f (suc i)))) v (length_first v (f 0)))
     ∙ flat_laid v n (λ i. f (suc i)) j (omega arith)
-
--- the words of one row, in a buffer of as many
-pub whole : (v u : ℕ) (d : List ℕ) → length d ≡ v → paste d 0 (first_words v u) v ≡ first_words v u
-whole v u d l =
-    ext_get_or 0 (paste d 0 (first_words v u) v) (first_words v u) (size₀ ∙ l ∙ sym (length_first v u)) (λ j k. at j (omega (arith, size₀)))
-  where
-    size₀ : length (paste d 0 (first_words v u) v) ≡ length d
-    size₀ = length-paste d 0 (first_words v u) v (omega arith) (omega (arith, length_first v u))
-
-    at : (j : ℕ) → j < v → get_or (paste d 0 (first_words v u) v) j 0 ≡ get_or (first_words v u) j 0
-    at j k =
-        ap (λ (i : ℕ). get_or (paste d 0 (first_words v u) v) i 0) (omega arith)
-        ∙ paste_in d 0 (first_words v u) v (omega arith) (omega (arith, length_first v u)) j k

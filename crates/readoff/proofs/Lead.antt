@@ -2,37 +2,49 @@
 -- whether the row's first columns hold no other.
 use mathlib.Core.Path.{◌≡◌, sym, ap, ◌∙◌}
 use mathlib.Core.Logic.{◌≢◌, ◌⊎◌, inl, inr}
-use mathlib.Core.Bool.{true, false, ◌&&◌}
+use mathlib.Core.Bool.{Bool, true, false, true≢false, not, ◌&&◌}
 use Prim.Native.Nat.{ℕ, ◌+◌, ◌%◌, ◌^◌, ◌≤◌, ◌<◌}
 use native.Mathlib.Decide.{ℕ_discrete, dec_lt}
 use native.Mathlib.Omega.{arith}
-use borrow.Author.Tests.{eq-eqb, ne_eqb, le-leb, lt-leb, lt-ltb, le-ltb}
+use borrow.Author.Tests.{eqb-true, eqb-false, eq-eqb, ne_eqb, le-leb, lt-leb, lt-ltb, le-ltb, ltb-true, ltb-false}
 use lib.Dec.{eqb, leb, ltb}
+use Rattle.std.specs.Prelude.{Option, None, Some, MatchOption}
 use Rattle.gf2.specs.Rows.{bit}
 use Rattle.gf2.specs.Reduced.{Pivot}
 use Rattle.gf2.proofs.Bits.{bit_ext, bit_mod, bit_mod_above, bit_pow, bit_pow_other}
-use Rattle.gf2.proofs.Pivot.{pivot_unique, pivot_pow, pivot_uncut, pivot_narrow}
+use Rattle.gf2.proofs.Pivot.{pivot_unique, pivot_pow, pivot_uncut}
 use Rattle.images.specs.ReadOff.{inside}
 use Rattle.images.proofs.Found.{Inside, inside_cases}
-use Rattle.readoff.specs.Steps.{NextOne}
+use Rattle.readoff.specs.Steps.{IsNext, NextOne, HasOne}
 
-module _ (end v q : ℕ) (narrow : v < 2 ^ end) (f : NextOne 0 end v q) where
-  pub lead_pivot : q < end → Pivot q v
-  lead_pivot l = record { one = f.one l; before = λ c h. f.zeros c (omega arith) h }
-
-  lead_is : (p : ℕ) → Pivot p v → p ≡ q
-  lead_is p g = go (dec_lt p q)
+-- a row of zeros has no pivot
+module _ (v : ℕ) (f : NextOne 0 v None) where
+  pub none_inside : (a e : ℕ) → inside a e v ≡ false
+  none_inside a e = go (inside_cases a e v)
     where
-      go : Dec (p < q) → p ≡ q
-      go (yes l) = absurd (omega (arith, f.zeros p (omega arith) l, g.one))
-      go (no l) = pivot_unique p q v g (lead_pivot (omega (arith, pivot_narrow end p v narrow g)))
+      go : ((inside a e v ≡ true) × Inside a e v) ⊎ ((inside a e v ≡ false) × (Inside a e v → ⊥)) → inside a e v ≡ false
+      go (inr t) = t.0
+      go (inl (_, (p, g, _, _))) = absurd (omega (arith, f p (omega arith), g.one))
 
-  pub inside_yes : (a e : ℕ) → a ≤ q → q < e → e ≤ end → inside a e v ≡ true
-  inside_yes a e h l b = go (inside_cases a e v)
+  pub none_unit : (n j : ℕ) → j < n → v % 2 ^ n ≢ 2 ^ j
+  none_unit n j small e = omega (arith, f j (omega arith), (pivot_uncut n j v small (rw e (pivot_pow j))).one)
+
+-- a further one past column j
+pub unit_more : (n v j : ℕ) → HasOne (j + 1) n v true → v % 2 ^ n ≢ 2 ^ j
+unit_more n v j (q, h, l, one) e =
+    let none : bit q v ≡ 0 = sym (bit_mod q n v l) ∙ ap (bit q) e ∙ bit_pow_other q j (omega (arith, h)) in
+    omega (arith, one)
+
+module _ (v q : ℕ) (f : IsNext 0 v q) where
+  next_pivot : Pivot q v
+  next_pivot = record { one = f.one; before = λ c h. f.zeros c (omega arith) h }
+
+  pub inside_yes : (a e : ℕ) → a ≤ q → q < e → inside a e v ≡ true
+  inside_yes a e h l = go (inside_cases a e v)
     where
       go : ((inside a e v ≡ true) × Inside a e v) ⊎ ((inside a e v ≡ false) × (Inside a e v → ⊥)) → inside a e v ≡ true
       go (inl t) = t.0
-      go (inr t) = absurd (t.1 (q, lead_pivot (omega arith), h, l))
+      go (inr t) = absurd (t.1 (q, next_pivot, h, l))
 
   pub inside_no : (a e : ℕ) → (a ≤ q → e ≤ q) → inside a e v ≡ false
   inside_no a e out = go (inside_cases a e v)
@@ -40,48 +52,60 @@ module _ (end v q : ℕ) (narrow : v < 2 ^ end) (f : NextOne 0 end v q) where
       go : ((inside a e v ≡ true) × Inside a e v) ⊎ ((inside a e v ≡ false) × (Inside a e v → ⊥)) → inside a e v ≡ false
       go (inr t) = t.0
       go (inl (_, (p, g, h, l))) =
-          let i : p ≡ q = lead_is p g in
+          let i : p ≡ q = pivot_unique p q v g next_pivot in
           absurd (omega (arith, out (omega arith)))
 
-  pub lead_inside : (a e : ℕ) → e ≤ end → inside a e v ≡ leb a q && ltb q e
-  lead_inside a e b = go (dec_lt q a) (dec_lt q e)
+  pub next_inside : (a e : ℕ) → leb a q && ltb q e ≡ inside a e v
+  next_inside a e = go (dec_lt q a) (dec_lt q e)
     where
-      go : Dec (q < a) → Dec (q < e) → inside a e v ≡ leb a q && ltb q e
-      go (yes h) _ = rw (lt-leb a q h) (inside_no a e (λ k. absurd (omega arith)))
+      go : Dec (q < a) → Dec (q < e) → leb a q && ltb q e ≡ inside a e v
+      go (yes h) _ = rw (lt-leb a q h) (sym (inside_no a e (λ k. absurd (omega arith))))
       go (no h) (yes l) =
           let k : a ≤ q = omega arith in
-          rw (le-leb a q k, lt-ltb q e l) (inside_yes a e k l b)
+          rw (le-leb a q k, lt-ltb q e l) (sym (inside_yes a e k l))
       go (no h) (no l) =
           let k : a ≤ q = omega arith in
           let u : e ≤ q = omega arith in
-          rw (le-leb a q k, le-ltb q e u) (inside_no a e (λ _. u))
+          rw (le-leb a q k, le-ltb q e u) (sym (inside_no a e (λ _. u)))
 
   -- the first n columns hold a one in column j alone
-  module _ (n j : ℕ) (small : j < n) (b : n ≤ end) where
+  module _ (n j : ℕ) (small : j < n) where
     pub unit_elsewhere : q ≢ j → v % 2 ^ n ≢ 2 ^ j
-    unit_elsewhere ne e = ne (sym (lead_is j (pivot_uncut n j v small (rw e (pivot_pow j)))))
+    unit_elsewhere ne e = ne (sym (pivot_unique j q v (pivot_uncut n j v small (rw e (pivot_pow j))) next_pivot))
 
-    module _ (q₂ : ℕ) (g : NextOne (j + 1) end v q₂) where
-      pub unit_more : q₂ < n → v % 2 ^ n ≢ 2 ^ j
-      unit_more l e =
-          let one : bit q₂ v ≡ 1 = g.one (omega arith) in
-          let none : bit q₂ v ≡ 0 = sym (bit_mod q₂ n v l) ∙ ap (bit q₂) e ∙ bit_pow_other q₂ j (omega (arith, g.from)) in
-          omega arith
+    pub unit_alone : q ≡ j → HasOne (j + 1) n v false → v % 2 ^ n ≡ 2 ^ j
+    unit_alone e rest = bit_ext (v % 2 ^ n) (2 ^ j) (λ c. go c (dec_lt c n) (ℕ_discrete c j) (dec_lt c j))
+      where
+        go : (c : ℕ) → Dec (c < n) → Dec (c ≡ j) → Dec (c < j) → bit c (v % 2 ^ n) ≡ bit c (2 ^ j)
+        go c (no h) _ _ = bit_mod_above n c v (omega arith) ∙ sym (bit_pow_other c j (omega arith))
+        go c (yes h) (yes i) _ = bit_mod c n v h ∙ ap (λ (x : ℕ). bit x v) (i ∙ sym e) ∙ f.one ∙ sym (ap (λ (x : ℕ). bit x (2 ^ j)) i ∙ bit_pow j)
+        go c (yes h) (no i) (yes k) = bit_mod c n v h ∙ f.zeros c (omega arith) (omega arith) ∙ sym (bit_pow_other c j i)
+        go c (yes h) (no i) (no k) = bit_mod c n v h ∙ rest c (omega arith) h ∙ sym (bit_pow_other c j i)
 
-      pub unit_alone : q ≡ j → n ≤ q₂ → v % 2 ^ n ≡ 2 ^ j
-      unit_alone e l = bit_ext (v % 2 ^ n) (2 ^ j) (λ c. go c (dec_lt c n) (ℕ_discrete c j) (dec_lt c j))
-        where
-          go : (c : ℕ) → Dec (c < n) → Dec (c ≡ j) → Dec (c < j) → bit c (v % 2 ^ n) ≡ bit c (2 ^ j)
-          go c (no h) _ _ = bit_mod_above n c v (omega arith) ∙ sym (bit_pow_other c j (omega arith))
-          go c (yes h) (yes i) _ = bit_mod c n v h ∙ ap (λ (x : ℕ). bit x v) (i ∙ sym e) ∙ f.one (omega arith) ∙ sym (ap (λ (x : ℕ). bit x (2 ^ j)) i ∙ bit_pow j)
-          go c (yes h) (no i) (yes k) = bit_mod c n v h ∙ f.zeros c (omega arith) (omega arith) ∙ sym (bit_pow_other c j i)
-          go c (yes h) (no i) (no k) = bit_mod c n v h ∙ g.zeros c (omega arith) (omega arith) ∙ sym (bit_pow_other c j i)
+-- ---- what the tests tell
 
-      pub unit_test : q ≡ j → leb n q₂ ≡ eqb (v % 2 ^ n) (2 ^ j)
-      unit_test e = go (dec_lt q₂ n)
-        where
-          go : Dec (q₂ < n) → leb n q₂ ≡ eqb (v % 2 ^ n) (2 ^ j)
-          go (yes l) = lt-leb n q₂ l ∙ sym (ne_eqb (v % 2 ^ n) (2 ^ j) (unit_more l))
-          go (no l) =
-              let h : n ≤ q₂ = omega arith in
-              le-leb n q₂ h ∙ sym (eq-eqb (v % 2 ^ n) (2 ^ j) (unit_alone e h))
+pub stands : (v a e : ℕ) (b : Bool) (r : Option ℕ) → NextOne 0 v r → MatchOption r (b ≡ false) (λ q. b ≡ leb a q && ltb q e) → b ≡ inside a e v
+stands v a e b None f t = t ∙ sym (none_inside v f a e)
+stands v a e b (Some q) f t = t ∙ next_inside v q f a e
+
+pub one_before : (v a e : ℕ) (b : Bool) (r : Option ℕ) → NextOne a v r → MatchOption r (b ≡ false) (λ q. b ≡ ltb q e) → HasOne a e v b
+one_before v a e true None f t = absurd (true≢false t)
+one_before v a e false None f t = λ q h l. f q h
+one_before v a e true (Some q) f t = (q, f.from, ltb-true q e (sym t), f.one)
+one_before v a e false (Some q) f t = λ i h l. f.zeros i h (omega (arith, ltb-false q e (sym t)))
+
+module _ (v n j : ℕ) (small : j < n) (b : Bool) (r : Option ℕ) (f : NextOne 0 v r) (t : MatchOption r (b ≡ false) (λ q. b ≡ eqb q j)) where
+  pub unit_first : b ≡ false → b ≡ eqb (v % 2 ^ n) (2 ^ j)
+  unit_first e = e ∙ sym (ne_eqb (v % 2 ^ n) (2 ^ j) (go r f t))
+    where
+      go : (r : Option ℕ) → NextOne 0 v r → MatchOption r (b ≡ false) (λ q. b ≡ eqb q j) → v % 2 ^ n ≢ 2 ^ j
+      go None f t = none_unit v f n j small
+      go (Some q) f t = unit_elsewhere v q f n j small (eqb-false q j (sym t ∙ e))
+
+  pub unit_second : b ≡ true → (more : Bool) → HasOne (j + 1) n v more → not more ≡ eqb (v % 2 ^ n) (2 ^ j)
+  unit_second e more h = go r f t more h
+    where
+      go : (r : Option ℕ) → NextOne 0 v r → MatchOption r (b ≡ false) (λ q. b ≡ eqb q j) → (more : Bool) → HasOne (j + 1) n v more → not more ≡ eqb (v % 2 ^ n) (2 ^ j)
+      go None f t more h = absurd (true≢false (sym e ∙ t))
+      go (Some q) f t true h = sym (ne_eqb (v % 2 ^ n) (2 ^ j) (unit_more n v j h))
+      go (Some q) f t false h = sym (eq-eqb (v % 2 ^ n) (2 ^ j) (unit_alone v q f n j small (eqb-true q j (sym t ∙ e)) h))

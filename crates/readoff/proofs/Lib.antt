@@ -1,10 +1,11 @@
+pub mod Held
 pub mod Columns
 pub mod Lead
 pub mod Saying
 pub mod Place
 pub mod Laid
 pub mod Sides
-pub mod Fitting
 pub mod Telling
+pub mod Fitting
 pub mod Once
 pub mod Clean

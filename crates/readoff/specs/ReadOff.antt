@@ -1,30 +1,33 @@
 -- What is read off a reduced matrix, by the words that hold it. What stands past the last column is read as it is: nothing here asks for clean padding.
-use Rattle.std.specs.Prelude.{◌≡◌, Bool, List, ℕ, ◌+◌, ◌-◌, ◌*◌, ◌/◌, ◌^◌, ◌≤◌, T, length}
+use Rattle.std.specs.Prelude.{◌≡◌, Bool, true, false, Result, Ok, Err, List, ℕ, ◌+◌, ◌-◌, ◌*◌, ◌/◌, ◌^◌, ◌≤◌, T, length}
 use Rattle.gf2.specs.Rows.{tabulate}
 use Rattle.gf2.specs.Inverse.{right_of, begins_with_identity}
 use Rattle.words.specs.Words.{value, words_of, rows_of, first_words, flat}
 use Rattle.images.specs.ReadOff.{pivot_row, has_pivot, contradictory, shown, mark, marked}
-use Rattle.readoff.specs.declared.Reading.{Reading}
-use Rattle.readoff.specs.declared.Reading.TheVariants.{Unfit, Absent, Present}
-use Rattle.readoff.specs.declared.Solved.{Solved}
-use Rattle.readoff.specs.declared.Solved.TheVariants as solved
+use Rattle.refusals.specs.declared.Unfit.{Unfit}
+use Rattle.readoff.specs.declared.Unsolved.{Unsolved}
+use Rattle.readoff.specs.declared.Unsolved.TheVariants as unsolved
 
 -- rows of that many columns stand at the start of m
 pub record Holds (rows columns : ℕ) (m : List ℕ) : Type 0 where
   pub wide : columns ≤ 1024
   pub held : rows * words_of columns ≤ length m
 
+-- an answer: whether something is there, where the shapes fit
+abbrev pub Reading : Type 0
+Reading = Result Bool Unfit
+
 -- the shapes fit and the test holds; or they fit and it does not; or they do not fit
 abbrev pub Decided : Reading → Type 0 → Bool → Type 0
-Decided Present fits b = fits × T b
-Decided Absent fits b = fits × (T b → ⊥)
-Decided Unfit fits b = fits → ⊥
+Decided (Ok true) fits b = fits × T b
+Decided (Ok false) fits b = fits × (T b → ⊥)
+Decided (Err e) fits b = fits → ⊥
 
 -- a buffer x has become what is read, or stays as it was
 abbrev pub ReadInto : Reading → List ℕ → List ℕ → List ℕ → Type 0
-ReadInto Present read x x' = x' ≡ read
-ReadInto Absent read x x' = x' ≡ x
-ReadInto Unfit read x x' = x' ≡ x
+ReadInto (Ok true) read x x' = x' ≡ read
+ReadInto (Ok false) read x x' = x' ≡ x
+ReadInto (Err e) read x x' = x' ≡ x
 
 -- ---- a pivot among the payload
 
@@ -71,12 +74,12 @@ pub record Shown (unknown n v : ℕ) (R image marks : List ℕ) : Type 0 where
   pub image_is : image ≡ flat v (tabulate n (shown unknown n R))
   pub marks_are : marks ≡ tabulate n (mark n R)
 
-abbrev pub BlocksRead : Solved → ℕ → ℕ → ℕ → List ℕ → List ℕ → List ℕ → List ℕ → List ℕ → List ℕ → Type 0
-BlocksRead (solved.Known x) rows columns n m unknown image marks image' marks' =
+abbrev pub BlocksRead : Result ℕ Unsolved → ℕ → ℕ → ℕ → List ℕ → List ℕ → List ℕ → List ℕ → List ℕ → List ℕ → Type 0
+BlocksRead (Ok x) rows columns n m unknown image marks image' marks' =
     Blocks rows columns n m (length unknown) (length image) (length marks) × (T (contradictory n (columns - n) (rows_of (words_of columns) rows m)) → ⊥)
     × Shown (value unknown) n (words_of (columns - n)) (rows_of (words_of columns) rows m) image' marks' × (x ≡ marked marks')
-BlocksRead solved.Contradictory rows columns n m unknown image marks image' marks' =
+BlocksRead (Err unsolved.Contradictory) rows columns n m unknown image marks image' marks' =
     Blocks rows columns n m (length unknown) (length image) (length marks) × T (contradictory n (columns - n) (rows_of (words_of columns) rows m))
     × (image' ≡ image) × (marks' ≡ marks)
-BlocksRead solved.Unfit rows columns n m unknown image marks image' marks' =
+BlocksRead (Err unsolved.Unfit) rows columns n m unknown image marks image' marks' =
     (Blocks rows columns n m (length unknown) (length image) (length marks) → ⊥) × (image' ≡ image) × (marks' ≡ marks)

@@ -1,84 +1,61 @@
 #![tactic(auto)]
 // What is read off a reduced matrix. Nothing here knows how it came to be reduced, and every answer is defined for matrices that are not.
-ghost use Rattle.std.specs.Prelude.{◌≡◌, ◌&&◌, [], ℕ, ◌+◌, ◌*◌, ◌/◌, ◌%◌, ◌^◌, ◌≤◌, ◌<◌, eqb, leb, ltb, length, get_or, set};
+ghost use Rattle.std.specs.Prelude.{◌≡◌, [], ℕ, ◌*◌, ◌≤◌, ◌<◌, length, get_or, set};
 ghost use Rattle.std.proofs.Math.Seq.{paste};
-ghost use Rattle.gf2.specs.Rows.{part};
+ghost use Rattle.gf2.specs.Rows.{row};
 ghost use Rattle.gf2.specs.Inverse.{begins_with_identity, right_of};
-ghost use Rattle.words.specs.Words.{value, rows_of, first_words, flat};
-ghost use Rattle.refusals.specs.Outcome.{Decides};
-ghost use Rattle.images.specs.ReadOff.{marked};
-ghost use Rattle.readoff.specs.ReadOff.{Holds, Shown, IsRefuted, RightRead, Halved, BlocksRead};
-ghost use Rattle.readoff.specs.Steps.{FirstIn, Tells};
+ghost use Rattle.words.specs.Words.{value, flat};
+ghost use Rattle.images.specs.ReadOff.{has_pivot, marked};
+ghost use Rattle.readoff.specs.declared.Unsolved.TheVariants as unsolved;
+ghost use Rattle.readoff.specs.ReadOff.{Shown, IsRefuted, RightRead, Halved, BlocksRead};
+ghost use Rattle.readoff.specs.Steps.{FirstIn, InBlocks, Tells};
 
 mod row;
+mod rows;
 
-// Present: what was looked for is there, and written where a buffer is lent; Absent: it is not; Unfit: the shapes do not fit. Only Present writes
-#[derive(Clone, Copy)]
-pub enum Reading {
-    Unfit,
-    Absent,
-    Present,
-}
+use refusals::Unfit;
+use rows::Rows;
 
-// Known: how many blocks are; Contradictory: a pivot stands in the payload; Unfit: the shapes do not fit. Only Known writes
-#[derive(Clone, Copy)]
-pub enum Solved {
+// why no block is told: the shapes do not fit, or a pivot stands in the payload
+#[derive(Clone, Copy, Debug, PartialEq, Eq)]
+pub enum Unsolved {
     Unfit,
     Contradictory,
-    Known(usize),
 }
 
-// whether rows of that many columns stand at the start of m
-fn holds(m: &[u64], rows: usize, columns: usize) -> bool
-    ensures { Decides result (Holds rows columns m.now) }
-{
-    if 1024 < columns {
-        return false;
+impl From<Unfit> for Unsolved {
+    ghost from_gives = { λ _ e. e ≡ unsolved.Unfit };
+
+    fn from(_unfit: Unfit) -> Unsolved {
+        Unsolved::Unfit
     }
-    let w = words::per_row(columns);
-    if w == 0 {
-        return true;
-    }
-    rows <= m.len() / w
 }
 
-fn stands_in(c: usize, a: usize, e: usize) -> bool
-    ensures { result ≡ leb a c && ltb c e }
+// the first row whose pivot stands in columns a to e - 1
+fn pivot_row(m: &Rows, a: usize, e: usize) -> Option<usize>
+    ensures { FirstIn a e m.now result }
 {
-    a <= c && c < e
+    (0..m.len()).find(|&i| m.row(i).stands_in(a, e))
 }
 
-// the first row whose pivot stands in columns a to e - 1, or rows
-fn pivot_row(m: &[u64], rows: usize, w: usize, a: usize, e: usize) -> usize
-    requires { (rows * w ≤ length m.now) × (w ≤ 16) × (e ≤ 64 * w) }
-    ensures { FirstIn a e (rows_of w rows m.now) result }
+// whether some row's pivot does
+fn has_pivot(m: &Rows, a: usize, e: usize) -> bool
+    ensures { result ≡ has_pivot a e m.now }
 {
-    let mut i = 0;
-    while i < rows {
-        let c = row::next_one(m, i * w, w, 0);
-        if stands_in(c, a, e) {
-            return i;
-        }
-        i += 1;
-    }
-    rows
+    pivot_row(m, a, e).is_some()
 }
+
+// Below, true says that what was looked for is there, and written where a buffer is lent; else nothing is written.
 
 // whether a pivot falls in the columns from n on
-pub fn contradictory(m: &[u64], rows: usize, columns: usize, n: usize) -> Reading
+pub fn contradictory(m: &[u64], rows: usize, columns: usize, n: usize) -> Result<bool, Unfit>
     ensures { IsRefuted result rows columns n m.now }
 {
     if columns < n {
-        return Reading::Unfit;
+        return Err(Unfit);
     }
-    if !holds(m, rows, columns) {
-        return Reading::Unfit;
-    }
-    if pivot_row(m, rows, words::per_row(columns), n, columns) < rows {
-        Reading::Present
-    } else {
-        Reading::Absent
-    }
+    let m = Rows::held(m, rows, columns)?;
+    Ok(has_pivot(&m, n, columns))
 }
 
 // of the first row with its pivot in columns a to e - 1 the columns from e on become the words of `names`
@@ -89,136 +66,99 @@ pub fn named(
     a: usize,
     e: usize,
     names: &mut [u64],
-) -> Reading
+) -> Result<bool, Unfit>
     ensures { RightRead result rows columns a e m.now names.old names.new }
 {
-    if columns < e {
-        return Reading::Unfit;
+    if columns < e || names.len() != words::per_row(columns - e) {
+        return Err(Unfit);
     }
-    if !holds(m, rows, columns) {
-        return Reading::Unfit;
-    }
-    let v = words::per_row(columns - e);
-    if names.len() != v {
-        return Reading::Unfit;
-    }
-    let w = words::per_row(columns);
-    let i = pivot_row(m, rows, w, a, e);
-    if i == rows {
-        return Reading::Absent;
-    }
-    row::take_from(names, 0, v, m, i * w, w, e);
-    Reading::Present
-}
-
-// whether the only one in the row's first n columns is in column j
-fn is_unit(m: &[u64], at: usize, w: usize, n: usize, j: usize) -> bool
-    requires { (at + w ≤ length m.now) × (w ≤ 16) × (n ≤ 64 * w) × (j < n) }
-    ensures { result ≡ eqb (value (part at w m.now) % 2 ^ n) (2 ^ j) }
-{
-    if row::next_one(m, at, w, 0) != j {
-        return false;
-    }
-    n <= row::next_one(m, at, w, j + 1)
-}
-
-// whether the first n columns are those of the identity
-fn begins_with_identity(m: &[u64], n: usize, w: usize) -> bool
-    requires { (n * w ≤ length m.now) × (w ≤ 16) × (n ≤ 64 * w) }
-    ensures { result ≡ begins_with_identity n (rows_of w n m.now) }
-{
-    let mut i = 0;
-    while i < n {
-        if !is_unit(m, i * w, w, n, i) {
-            return false;
+    let m = Rows::held(m, rows, columns)?;
+    match pivot_row(&m, a, e) {
+        None => Ok(false),
+        Some(i) => {
+            m.row(i).write_from(e, names);
+            Ok(true)
         }
-        i += 1;
     }
-    true
+}
+
+// whether the first columns are those of the identity
+fn begins_with_identity(m: &Rows) -> bool
+    ensures { result ≡ begins_with_identity (length m.now) m.now }
+{
+    let n = m.len();
+    (0..n).all(|i| m.row(i).is_unit(n, i))
 }
 
 // a matrix of n rows and 2n columns that begins with the identity: its right half is written to the result
-pub fn right_half(m: &[u64], n: usize, res: &mut [u64]) -> Reading
+pub fn right_half(m: &[u64], n: usize, res: &mut [u64]) -> Result<bool, Unfit>
     ensures { Halved result n m.now res.old res.new }
 {
     if 512 < n {
-        return Reading::Unfit;
+        return Err(Unfit);
     }
-    if refusals::wrong_buffer(n, n, res.len()).number() != 0 {
-        return Reading::Unfit;
+    let m = Rows::held(m, n, n + n)?;
+    let v = words::per_row(n);
+    if res.len() != n * v {
+        return Err(Unfit);
     }
-    if !holds(m, n, n + n) {
-        return Reading::Unfit;
+    if !begins_with_identity(&m) {
+        return Ok(false);
     }
-    let w = words::per_row(n + n);
-    if !begins_with_identity(m, n, w) {
-        return Reading::Absent;
-    }
-    right(m, n, w, words::per_row(n), res);
-    Reading::Present
+    right(&m, v, res);
+    Ok(true)
 }
 
-// the columns from n on of n rows
-fn right(m: &[u64], n: usize, w: usize, v: usize, res: &mut [u64])
-    requires { (n * w ≤ length m.now) × (length res.old ≡ n * v) × (v ≤ 16) × (n ≤ 1024) }
-    ensures { res.new ≡ flat v (right_of n (rows_of w n m.now)) }
+// the columns of n rows from n on, v words of each
+fn right(m: &Rows, v: usize, res: &mut [u64])
+    requires { (length m.now ≤ 512) × (v ≤ 16) × (length res.old ≡ length m.now * v) }
+    ensures { res.new ≡ flat v (right_of (length m.now) m.now) }
 {
-    let mut i = 0;
-    while i < n {
-        row::take_from(res, i * v, v, m, i * w, w, n);
-        i += 1;
+    let n = m.len();
+    for i in 0..n {
+        m.row(i).write_from(n, &mut res[i * v..i * v + v]);
     }
 }
 
 // block j is not known: the words of an unknown block stand in its place
-fn set_unknown(unknown: &[u64], image: &mut [u64], marks: &mut [u8], j: usize, v: usize)
-    requires { (v ≤ length unknown.now) × (j * v + v ≤ length image.old) × (j < length marks.old) }
-    ensures { (image.new ≡ paste image.old (j * v) (first_words v (value unknown.now)) v) × (marks.new ≡ set marks.old j 0) }
+fn set_unknown(unknown: &[u64], image: &mut [u64], marks: &mut [u8], j: usize)
+    requires { InBlocks (length unknown.now) (length image.old) (length marks.old) × (j < length marks.old) }
+    ensures { (image.new ≡ paste image.old (j * length unknown.now) unknown.now (length unknown.now)) × (marks.new ≡ set marks.old j 0) }
 {
-    let mut l = 0;
-    while l < v {
-        image[j * v + l] = unknown[l];
-        l += 1;
-    }
+    let v = unknown.len();
+    image[j * v..j * v + v].copy_from_slice(unknown);
     marks[j] = 0;
 }
 
 // what row i says of the block of its pivot
-fn tell(
-    m: &[u64],
-    i: usize,
-    w: usize,
-    n: usize,
-    v: usize,
-    unknown: &[u64],
-    image: &mut [u64],
-    marks: &mut [u8],
-)
-    requires { (i * w + w ≤ length m.now) × (w ≤ 16) × (n ≤ 64 * w) × (v ≤ 16) × (v ≤ length unknown.now) × (length image.old ≡ n * v) × (length marks.old ≡ n) }
-    ensures { Tells (value unknown.now) n v (value (part (i * w) w m.now)) image.old marks.old image.new marks.new }
+fn tell(m: &Rows, i: usize, unknown: &[u64], image: &mut [u64], marks: &mut [u8])
+    requires { InBlocks (length unknown.now) (length image.old) (length marks.old) × (i < length m.now) }
+    ensures { Tells (value unknown.now) (length marks.old) (length unknown.now) (row m.now i) image.old marks.old image.new marks.new }
 {
-    let at = i * w;
-    let j = row::next_one(m, at, w, 0);
+    let row = m.row(i);
+    let n = marks.len();
+    let Some(j) = row.next_one(0) else {
+        return;
+    };
     if n <= j {
         return;
     }
-    if row::next_one(m, at, w, j + 1) < n {
-        set_unknown(unknown, image, marks, j, v);
+    if row.has_one(j + 1, n) {
+        set_unknown(unknown, image, marks, j);
         return;
     }
-    row::take_from(image, j * v, v, m, at, w, n);
+    let v = unknown.len();
+    row.write_from(n, &mut image[j * v..j * v + v]);
     marks[j] = 1;
 }
 
 // at first no block is known
-fn none_known(n: usize, v: usize, unknown: &[u64], image: &mut [u64], marks: &mut [u8])
-    requires { (v ≤ length unknown.now) × (length image.old ≡ n * v) × (length marks.old ≡ n) }
-    ensures { Shown (value unknown.now) n v [] image.new marks.new }
+fn none_known(unknown: &[u64], image: &mut [u64], marks: &mut [u8])
+    requires { InBlocks (length unknown.now) (length image.old) (length marks.old) }
+    ensures { Shown (value unknown.now) (length marks.old) (length unknown.now) [] image.new marks.new }
 {
-    let mut j = 0;
-    while j < n {
-        set_unknown(unknown, image, marks, j, v);
-        j += 1;
+    for j in 0..marks.len() {
+        set_unknown(unknown, image, marks, j);
     }
 }
 
@@ -227,42 +167,24 @@ fn marks_set(marks: &[u8]) -> usize
     requires { (j : ℕ) → get_or marks.now j 0 ≤ 1 }
     ensures { result ≡ marked marks.now }
 {
-    let n = marks.len();
-    let mut sum = 0;
-    let mut j = 0;
-    while j < n {
-        sum += marks[j] as usize;
-        j += 1;
-    }
-    sum
+    marks.iter().filter(|mark| **mark == 1).count()
 }
 
 // the blocks and marks of all rows; answers how many are known
-fn blocks(
-    m: &[u64],
-    rows: usize,
-    w: usize,
-    n: usize,
-    v: usize,
-    unknown: &[u64],
-    image: &mut [u64],
-    marks: &mut [u8],
-) -> usize
-    requires { (rows * w ≤ length m.now) × (w ≤ 16) × (n ≤ 64 * w) × (v ≤ 16) × (v ≤ length unknown.now) × (length image.old ≡ n * v) × (length marks.old ≡ n) }
-    ensures { Shown (value unknown.now) n v (rows_of w rows m.now) image.new marks.new × (result ≡ marked marks.new) }
+fn blocks(m: &Rows, unknown: &[u64], image: &mut [u64], marks: &mut [u8]) -> usize
+    requires { InBlocks (length unknown.now) (length image.old) (length marks.old) }
+    ensures { Shown (value unknown.now) (length marks.old) (length unknown.now) m.now image.new marks.new × (result ≡ marked marks.new) }
 {
-    none_known(n, v, unknown, image, marks);
+    none_known(unknown, image, marks);
     // from the last row to the first, so that of two rows with one pivot column the first counts
-    let mut i = rows;
-    while 0 < i {
-        i -= 1;
-        tell(m, i, w, n, v, unknown, image, marks);
+    for i in (0..m.len()).rev() {
+        tell(m, i, unknown, image, marks);
     }
     marks_set(marks)
 }
 
-// the blocks that the reduced packets make known, and their marks, with the words of `unknown` in place of every other block; nothing is written where the
-// packets are contradictory
+// the blocks that the reduced packets make known, and their marks, with the words of `unknown` in place of every other block; answers how many are known.
+// Nothing is written where the packets are contradictory
 pub fn solution(
     m: &[u64],
     rows: usize,
@@ -271,37 +193,19 @@ pub fn solution(
     unknown: &[u64],
     image: &mut [u64],
     marks: &mut [u8],
-) -> Solved
+) -> Result<usize, Unsolved>
     ensures { BlocksRead result rows columns n m.now unknown.now image.old marks.old image.new marks.new }
 {
     if columns < n {
-        return Solved::Unfit;
+        return Err(Unsolved::Unfit);
     }
-    let p = columns - n;
-    let v = words::per_row(p);
-    if unknown.len() < v {
-        return Solved::Unfit;
+    let m = Rows::held(m, rows, columns)?;
+    let v = words::per_row(columns - n);
+    if unknown.len() < v || image.len() != n * v || marks.len() != n {
+        return Err(Unsolved::Unfit);
     }
-    let o = refusals::wrong_buffer(n, p, image.len()).and_then(refusals::wrong_marks(
-        n,
-        marks.len(),
-    ));
-    if o.number() != 0 {
-        return Solved::Unfit;
+    if has_pivot(&m, n, columns) {
+        return Err(Unsolved::Contradictory);
     }
-    let c = contradictory(m, rows, columns, n);
-    match c {
-        Reading::Unfit => Solved::Unfit,
-        Reading::Present => Solved::Contradictory,
-        Reading::Absent => Solved::Known(blocks(
-            m,
-            rows,
-            words::per_row(columns),
-            n,
-            v,
-            unknown,
-            image,
-            marks,
-        )),
-    }
+    Ok(blocks(&m, &unknown[..v], image, marks))
 }

@@ -9,10 +9,9 @@ use Rattle.gf2.specs.Rref.{rref}
 use Rattle.gf2.proofs.Reduced.{one_reduced_form}
 use Rattle.gf2.proofs.Rref.{rref_form}
 use Rattle.refusals.specs.declared.Refusal.{Refusal}
-use Rattle.refusals.specs.declared.Outcome.TheVariants.{Done}
+use Rattle.std.specs.Prelude.{Ok, Err}
 use Rattle.bundle.specs.Bundle.{Entry, count_of, both_kinds, bundle_checks, entry_at, entries_from, entries_of, meaning}
 use Rattle.bundle.specs.Answers.{counted_in}
-use Rattle.bundle.specs.declared.Counted.TheVariants as counted
 use Rattle.bundle.proofs.Meaning.{count_from}
 use Rattle.bundle.proofs.Exactly.{means, refused_means}
 use Rattle.text.specs.Text.{ascii, newline, decimal}
@@ -48,11 +47,11 @@ next_entry i b =
 
 -- ---- the whole
 
-pub report_refused : (b : List ℕ) (r : Refusal) → counted_in (meaning both_kinds b) ≡ counted.Refused r → refused_text r ≡ report b
+pub report_refused : (b : List ℕ) (r : Refusal) → counted_in (meaning both_kinds b) ≡ Err r → refused_text r ≡ report b
 unfolding report meaning_text
 report_refused b r e = sym (ap meaning_text (refused_means both_kinds b r e))
 
-pub report_entries : (b : List ℕ) (n : ℕ) → bundle_checks both_kinds b ≡ Done → count_of b ≡ n → entries_text 0 (entries_from n 0 b) ++ (ascii "done " ++ decimal n ++ newline) ≡ report b
+pub report_entries : (b : List ℕ) (n : ℕ) → bundle_checks both_kinds b ≡ Ok tt → count_of b ≡ n → entries_text 0 (entries_from n 0 b) ++ (ascii "done " ++ decimal n ++ newline) ≡ report b
 unfolding report meaning_text entries_of
 report_entries b n d e =
     sym (ap meaning_text (means both_kinds b (entries_from (count_of b) 0 b) d refl)

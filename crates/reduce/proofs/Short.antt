@@ -13,9 +13,8 @@ use Rattle.gf2.specs.Additions.{additions}
 use Rattle.gf2.specs.Rref.{rref}
 use Rattle.gf2.proofs.Rref.{rref_form}
 use Rattle.words.specs.Words.{words_of}
-use Rattle.refusals.specs.declared.Outcome.{Outcome}
-use Rattle.refusals.specs.declared.Outcome.TheVariants.{Done, Refused}
-use Rattle.refusals.specs.Outcome.{number_of}
+use Rattle.std.specs.Prelude.{Ok, Err}
+use Rattle.refusals.specs.Outcome.{Outcome, number_of}
 use Rattle.refusals.specs.Checks.{Sized}
 use Rattle.bundle.specs.Bundle.{Entry, body_words, head_bytes, count_of, words_in, both_kinds, entries_checks, bundle_checks, entry_at, entries_from, entries_of, meant_by, meaning, Accepted}
 use Rattle.bundle.proofs.Passing.{entries_step, entries_end, accepted}
@@ -92,7 +91,7 @@ length_entry i e sized s =
     )
 
 -- n entries from entry i on, whose bodies begin at byte p
-length_entries : (rule : ℕ → Outcome) (n i j p : ℕ) (b : List ℕ) → entries_checks rule n i p b ≡ Done → 8 * length (entries_text j (entries_from n i b)) + 65 * p ≤ 1112 * n + 65 * length b
+length_entries : (rule : ℕ → Outcome) (n i j p : ℕ) (b : List ℕ) → entries_checks rule n i p b ≡ Ok tt → 8 * length (entries_text j (entries_from n i b)) + 65 * p ≤ 1112 * n + 65 * length b
 unfolding entries_text entries_from entry_at
 length_entries rule zero i j p b e =
     let z : p ≡ length b = entries_end rule i p b e in
@@ -111,7 +110,7 @@ unfolding report meaning entries_of meaning_text refused_text ascii
 report_short b = go (bundle_checks both_kinds b) refl
   where
     go : (o : Outcome) → o ≡ bundle_checks both_kinds b → length (meaning_text (meant_by (bundle_checks both_kinds b) (entries_from (count_of b) 0 b))) ≤ 544768
-    go Done e =
+    go (Ok t) e =
         let a : Accepted both_kinds b = accepted both_kinds b (sym e) in
         let es : List Entry = entries_from (count_of b) 0 b in
         let T : List ℕ = entries_text 0 es in
@@ -119,7 +118,7 @@ report_short b = go (bundle_checks both_kinds b) refl
         let all : 8 * length T + 65 * head_bytes (count_of b) ≤ 1112 * count_of b + 65 * length b = length_entries both_kinds (count_of b) 0 0 (head_bytes (count_of b)) b a.entries in
         subst (λ (o : Outcome). length (meaning_text (meant_by o es)) ≤ 544768) e
         (omega (arith, length-append T D, length-append (ascii "done " ++ decimal (length es)) newline, field (ascii "done ") (length es), all, a.few, a.short))
-    go (Refused r) e =
+    go (Err r) e =
         subst (λ (o : Outcome). length (meaning_text (meant_by o (entries_from (count_of b) 0 b))) ≤ 544768) e
         (omega (arith, length-append (ascii "refused " ++ decimal (number_of r)) newline, field (ascii "refused ") (number_of r)))
 

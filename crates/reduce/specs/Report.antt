@@ -1,9 +1,9 @@
 -- What the program writes, as a function of the bytes that it reads.
-use Rattle.std.specs.Prelude.{cond, List, [], ◌∷◌, ◌++◌, ℕ, ◌+◌, eqb, length}
+use Rattle.std.specs.Prelude.{cond, List, [], ◌∷◌, ◌++◌, ℕ, ◌+◌, eqb, length, Ok, Err}
 use Rattle.gf2.specs.Reduced.{rank}
 use Rattle.gf2.specs.Additions.{additions}
 use Rattle.gf2.specs.Rref.{rref}
-use Rattle.bundle.specs.Bundle.{Entry, Meaning, refused, bundle, both_kinds, meaning}
+use Rattle.bundle.specs.Bundle.{Entry, Meaning, both_kinds, meaning}
 use Rattle.text.specs.Text.{ascii, newline, decimal, bits}
 use Rattle.desk.specs.Desk.{window_columns, refused_text}
 
@@ -29,8 +29,8 @@ entries_text i (e ∷ es) = entry_text i e (rref e.matrix) ++ entries_text (i + 
 
 -- the text of a bundle, with the count at the end; or of a refusal
 unfoldable pub meaning_text : Meaning → List ℕ
-meaning_text (bundle es) = entries_text 0 es ++ (ascii "done " ++ decimal (length es) ++ newline)
-meaning_text (refused r) = refused_text r
+meaning_text (Ok es) = entries_text 0 es ++ (ascii "done " ++ decimal (length es) ++ newline)
+meaning_text (Err r) = refused_text r
 
 -- the whole text
 unfoldable pub report : List ℕ → List ℕ

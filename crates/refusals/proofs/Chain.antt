@@ -1,12 +1,9 @@
 -- Checks in order, whatever they are: a check more is a name more, wherever it stands.
-use mathlib.Core.Path.{◌≡◌, refl, sym, ap₂, ◌∙◌, subst}
+use mathlib.Core.Path.{◌≡◌, refl, ap₂}
 use mathlib.Core.List.{List, [], ◌∷◌}
-use native.Mathlib.Omega.{arith}
-use Prim.Native.Nat.{ℕ}
 use Rattle.refusals.specs.declared.Refusal.{Refusal}
-use Rattle.refusals.specs.declared.Outcome.{Outcome}
-use Rattle.refusals.specs.declared.Outcome.TheVariants.{Done, Refused}
-use Rattle.refusals.specs.Outcome.{◌and_then◌, first_after, first, Promised}
+use Rattle.std.specs.Prelude.{Ok, Err}
+use Rattle.refusals.specs.Outcome.{Outcome, ◌and_then◌, first_after, first, Promised}
 
 -- P of each check, one after the other, gives A
 abbrev pub Each : (Outcome → Type 0) → List Outcome → Type 0 → Type 0
@@ -14,16 +11,16 @@ Each P [] A = A
 Each P (o ∷ os) A = P o → Each P os A
 
 abbrev pub Passes : Outcome → Type 0
-Passes o = o ≡ Done
+Passes o = o ≡ Ok tt
 
 -- ---- two checks
 
-pub refused_not : {r : Refusal} → Refused r ≡ Done → ⊥
-refused_not {r} e = let z : ◌≡◌ {A = ℕ} 0 1 = cc in omega arith
+pub refused_not : {r : Refusal} → ◌≡◌ {A = Outcome} (Err r) (Ok tt) → ⊥
+refused_not e = cc
 
 pub then_done : (o p : Outcome) → Passes (o and_then p) → Passes o × Passes p
-then_done Done p e = (refl, e)
-then_done (Refused r) p e = absurd (refused_not e)
+then_done (Ok tt) p e = (refl, e)
+then_done (Err r) p e = absurd (refused_not e)
 
 pub done_then : {o p : Outcome} → Passes o → Passes p → Passes (o and_then p)
 done_then e f = ap₂ ◌and_then◌ e f
@@ -36,8 +33,8 @@ module _ (P : Outcome → Type 0) (both : (o p : Outcome) → P o → P p → P 
   chain_after o [] h = h
   chain_after o (p ∷ os) h = λ k. chain_after (o and_then p) os (both o p h k)
 
-  pub chain : P Done → (os : List Outcome) → Each P os (P (first os))
-  chain h os = chain_after Done os h
+  pub chain : P (Ok tt) → (os : List Outcome) → Each P os (P (first os))
+  chain h os = chain_after (Ok tt) os h
 
 -- a chain passes where each check does
 pub passing : (os : List Outcome) → Each Passes os (Passes (first os))
@@ -54,29 +51,15 @@ module _ {A : Type 0} where
   passed_after o (p ∷ os) f e = passed_after (o and_then p) os (f (then_done o p (front_done (o and_then p) os e)).1) e
 
   pub passed : (os : List Outcome) → Each Passes os A → Passes (first os) → A
-  passed os f e = passed_after Done os f e
+  passed os f e = passed_after (Ok tt) os f e
 
 -- ---- a call's promise, by the outcome of its checks
 
--- no two outcomes at once
-pub one_refusal : {a b : Refusal} → Refused a ≡ Refused b → a ≡ b
-one_refusal e = cc
-
-module _ {refused : Refusal → Type 0} {follows : Type 0} {checks : Outcome} (o : Outcome) (e : o ≡ checks) where
-  pub promise_stopped : (r : Refusal) → o ≡ Refused r → refused r → Promised checks refused follows
-  promise_stopped r f a = record {
-    stopped = λ q g. subst refused (one_refusal (sym f ∙ e ∙ g)) a;
-    past = λ g. absurd (refused_not (sym f ∙ e ∙ g));
-  }
-
-  pub promise_past : o ≡ Done → follows → Promised checks refused follows
-  promise_past f a = record { stopped = λ q g. absurd (refused_not (sym g ∙ sym e ∙ f)); past = λ g. a }
-
 -- refused by a check, or past them
 module _ {refused : Refusal → Type 0} {follows A : Type 0} {checks : Outcome} (p : Promised checks refused follows) where
-  pub by_promise : ((r : Refusal) → checks ≡ Refused r → refused r → A) → (checks ≡ Done → follows → A) → A
+  pub by_promise : ((r : Refusal) → checks ≡ Err r → refused r → A) → (checks ≡ Ok tt → follows → A) → A
   by_promise stopped past = go checks refl
     where
       go : (o : Outcome) → checks ≡ o → A
-      go Done e = past e (p.past e)
-      go (Refused r) e = stopped r e (p.stopped r e)
+      go (Ok tt) e = past e (p.past e)
+      go (Err r) e = stopped r e (p.stopped r e)

@@ -1,4 +1,3 @@
-pub mod Division
 pub mod Chain
 pub mod Passed
 pub mod Never

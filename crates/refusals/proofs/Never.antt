@@ -10,15 +10,14 @@ use lib.ListN.{length}
 use Rattle.words.specs.Words.{words_of, holds_rows}
 use Rattle.refusals.specs.declared.Refusal.{Refusal}
 use Rattle.refusals.specs.declared.Refusal.TheVariants.{TooManyRows, BadColumns, BadK, WrongLength, DirtyPadding, ShortRoom, BadBlocks, NotSquare, NoInverse, Contradictory, WrongBuffer}
-use Rattle.refusals.specs.declared.Outcome.{Outcome}
-use Rattle.refusals.specs.declared.Outcome.TheVariants.{Done, Refused}
-use Rattle.refusals.specs.Outcome.{number_of, outcome_number, refuse_if, ◌and_then◌, first}
+use Rattle.std.specs.Prelude.{Ok, Err}
+use Rattle.refusals.specs.Outcome.{Outcome, number_of, outcome_number, refuse_if, ◌and_then◌, first}
 use Rattle.refusals.specs.Checks.{too_many_rows, bad_columns, size_checks, bad_k, wrong_length, short_room, bad_blocks, not_square, wrong_buffer, wrong_marks, dirty_padding, inverse_shapes, inverse_order, inverse_checks, solving_shapes, solving_order, solving_checks}
 use Rattle.refusals.proofs.Chain.{Each, chain}
 
 -- the outcome is not this refusal
 abbrev pub Never : Refusal → Outcome → Type 0
-Never r o = o ≡ Refused r → ⊥
+Never r o = o ≡ Err r → ⊥
 
 -- r is 9 or 10
 module _ (r : Refusal) (from : 8 < number_of r) (to : number_of r < 11) where
@@ -37,8 +36,8 @@ module _ (r : Refusal) (from : 8 < number_of r) (to : number_of r < 11) where
   nor {o} {p} a b = go o a
     where
       go : (q : Outcome) → Never r q → Never r (q and_then p)
-      go Done h = b
-      go (Refused x) h = h
+      go (Ok tt) h = b
+      go (Err x) h = h
 
   -- nor is it that of checks in order
   none_of : (os : List Outcome) → Each (Never r) os (Never r (first os))

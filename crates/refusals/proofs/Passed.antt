@@ -1,5 +1,5 @@
 -- What the checks say: they refuse nothing exactly if each of their conditions fails.
-use mathlib.Core.Path.{◌≡◌, refl, sym, ap, ◌∙◌, subst}
+use mathlib.Core.Path.{◌≡◌, refl, sym, ap, ◌∙◌}
 use mathlib.Core.Bool.{Bool, true, false, not}
 use mathlib.Core.List.{List}
 use Prim.Native.Nat.{ℕ, ◌+◌, ◌-◌, ◌*◌, ◌^◌, ◌≤◌, ◌<◌}
@@ -13,9 +13,8 @@ use Rattle.words.specs.Words.{words_of, Clean, holds_rows}
 use Rattle.words.proofs.Padding.{holds_exactly}
 use Rattle.refusals.specs.declared.Refusal.{Refusal}
 use Rattle.refusals.specs.declared.Refusal.TheVariants.{TooManyRows, BadColumns, BadK, WrongLength, DirtyPadding, ShortRoom, BadBlocks, NotSquare, NoInverse, Contradictory, TooWide, NotBelow, WrongBuffer, BundleSize, EntryCount, ContentsCut, BadKind, BadShape, WrongOffset, BodyPast, BytesLeft, ShortOutput, BundleOver}
-use Rattle.refusals.specs.declared.Outcome.{Outcome}
-use Rattle.refusals.specs.declared.Outcome.TheVariants.{Done, Refused}
-use Rattle.refusals.specs.Outcome.{number_of, outcome_number, refuse_if, Decides, ◌and_then◌, first}
+use Rattle.std.specs.Prelude.{Ok, Err}
+use Rattle.refusals.specs.Outcome.{Outcome, number_of, outcome_number, refuse_if}
 use Rattle.refusals.specs.Checks.{too_many_rows, bad_columns, size_checks, bad_k, wrong_length, short_room, not_below, dirty_padding, bad_blocks, not_square, too_wide, wrong_buffer, wrong_marks, view_order, view_checks, reduction_order, reduction_checks, inverse_shapes, inverse_order, inverse_checks, solving_shapes, solving_order, solving_checks, contradiction_shapes, contradiction_order, contradiction_checks, Sized, Window, Parted, ViewPasses, ReductionPasses, InversePasses, SolvingPasses, ContradictionPasses}
 use Rattle.refusals.proofs.Chain.{Passes, passing, passed}
 pub use Rattle.refusals.proofs.Chain.{refused_not, then_done, done_then}
@@ -48,9 +47,9 @@ number_pos BytesLeft = lit< tt
 number_pos ShortOutput = lit< tt
 number_pos BundleOver = lit< tt
 
-pub number_zero : (o : Outcome) → outcome_number o ≡ 0 → o ≡ Done
-number_zero Done e = refl
-number_zero (Refused r) e = absurd (omega (arith, number_pos r))
+pub number_zero : (o : Outcome) → outcome_number o ≡ 0 → o ≡ Ok tt
+number_zero (Ok tt) e = refl
+number_zero (Err r) e = absurd (omega (arith, number_pos r))
 
 -- ---- one check, and what stands behind it
 
@@ -60,22 +59,6 @@ if_done false r e = refl
 
 pub done_if : {b : Bool} (r : Refusal) → b ≡ false → Passes (refuse_if b r)
 done_if r e = ap (λ (b : Bool). refuse_if b r) e
-
--- two checks more, behind those whose outcome is known
-module _ {c : Outcome} (o p q : Outcome) (e : o ≡ c) where
-  pub stays_refused : {r : Refusal} → o ≡ Refused r → Refused r ≡ c and_then p and_then q
-  stays_refused f = sym (ap (λ (x : Outcome). x and_then p and_then q) (sym e ∙ f))
-
-  pub goes_on : {x : Outcome} → o ≡ Done → x ≡ p and_then q → x ≡ c and_then p and_then q
-  goes_on f g = g ∙ sym (ap (λ (x : Outcome). x and_then p and_then q) (sym e ∙ f))
-
--- what a test decides
-module _ {A : Type 0} (b : Bool) (d : Decides b A) where
-  pub yes_so : b ≡ true → A
-  yes_so e = subst (λ (x : Bool). Decides x A) e d
-
-  pub not_so : b ≡ false → A → ⊥
-  not_so e = subst (λ (x : Bool). Decides x A) e d
 
 pub pos : {n : ℕ} → (n ≡ 0 → ⊥) → 0 < n
 pos h = omega arith
@@ -344,13 +327,7 @@ module _ (rows columns n k : ℕ) (m : List ℕ) (named room : ℕ) where
       (done_room rows k (columns + rows) room p.roomy)
       (done_clean rows columns m p.exact p.clean)
 
--- ---- after the checks of numbers and lengths the room's width can be added up
+-- ---- after the checks of sizes the room's width can be added up
 
-pub inverse_small : (rows columns k len result : ℕ) (o : Outcome) → o ≡ first (inverse_shapes rows columns k len result) → Passes o → rows + columns ≤ 1536
-inverse_small rows columns k len result o e f =
-    passed (inverse_shapes rows columns k len result) (λ sizes square window exact buffer. let s = sizes_done rows columns sizes in omega (arith, s.few, s.wide)) (sym e ∙ f)
-
-pub contradiction_small : (rows columns n k len named : ℕ) (o : Outcome) → o ≡ first (contradiction_shapes rows columns n k len named) → Passes o → columns + rows ≤ 1536
-contradiction_small rows columns n k len named o e f =
-    passed (contradiction_shapes rows columns n k len named)
-    (λ sizes blocks wide window exact line. let s = sizes_done rows columns sizes in omega (arith, s.few, s.wide)) (sym e ∙ f)
+pub sizes_small : (rows columns : ℕ) (o : Outcome) → o ≡ size_checks rows columns → Passes o → rows + columns ≤ 1536
+sizes_small rows columns o e f = let s = sizes_done rows columns (sym e ∙ f) in omega (arith, s.few, s.wide)

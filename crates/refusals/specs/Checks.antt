@@ -1,9 +1,8 @@
 -- The checks of shape. A check is a refusal, exactly if its test holds. The number before each check is that of its refusal, as `number_of` has it.
 use Rattle.std.specs.Prelude.{◌≡◌, not, List, [], ◌∷◌, ℕ, ◌+◌, ◌-◌, ◌*◌, ◌^◌, ◌≤◌, ◌<◌, eqb, ltb, leb, length}
 use Rattle.words.specs.Words.{words_of, Clean, holds_rows}
-use Rattle.refusals.specs.declared.Outcome.{Outcome}
 use Rattle.refusals.specs.declared.Refusal.TheVariants.{TooManyRows, BadColumns, BadK, WrongLength, DirtyPadding, ShortRoom, BadBlocks, NotSquare, TooWide, NotBelow, WrongBuffer}
-use Rattle.refusals.specs.Outcome.{refuse_if, ◌and_then◌, first}
+use Rattle.refusals.specs.Outcome.{Outcome, refuse_if, ◌and_then◌, first}
 
 -- 1: over 512 rows
 unfoldable pub too_many_rows : ℕ → Outcome

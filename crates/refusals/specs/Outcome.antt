@@ -1,9 +1,12 @@
 -- The number of each refusal, and the first of several checks that refuses.
-use Rattle.std.specs.Prelude.{◌≡◌, Bool, true, false, List, [], ◌∷◌, ℕ}
+use Rattle.std.specs.Prelude.{◌≡◌, Bool, true, false, List, [], ◌∷◌, ℕ, Result, Ok, Err}
 use Rattle.refusals.specs.declared.Refusal.{Refusal}
 use Rattle.refusals.specs.declared.Refusal.TheVariants.{TooManyRows, BadColumns, BadK, WrongLength, DirtyPadding, ShortRoom, BadBlocks, NotSquare, NoInverse, Contradictory, TooWide, NotBelow, WrongBuffer, BundleSize, EntryCount, ContentsCut, BadKind, BadShape, WrongOffset, BodyPast, BytesLeft, ShortOutput, BundleOver}
-use Rattle.refusals.specs.declared.Outcome.{Outcome}
-use Rattle.refusals.specs.declared.Outcome.TheVariants.{Done, Refused}
+use Rattle.refusals.specs.declared.Unfit.{Unfit}
+
+-- what a check answers
+abbrev pub Outcome : Type 0
+Outcome = Result (Unit {0}) Refusal
 
 abbrev pub number_of : Refusal → ℕ
 number_of TooManyRows = 1
@@ -31,30 +34,35 @@ number_of ShortOutput = 28
 number_of BundleOver = 29
 
 -- 0 where nothing is refused
-abbrev pub outcome_number : Outcome → ℕ
-outcome_number Done = 0
-outcome_number (Refused r) = number_of r
+abbrev pub outcome_number : {A : Type 0} → Result A Refusal → ℕ
+outcome_number (Ok a) = 0
+outcome_number (Err r) = number_of r
+
+-- an answer without its value: done, or the refusal
+abbrev pub outcome_of : {A : Type 0} → Result A Refusal → Outcome
+outcome_of (Ok a) = Ok tt
+outcome_of (Err r) = Err r
 
 -- a check: this refusal, exactly if the test holds
 abbrev pub refuse_if : Bool → Refusal → Outcome
-refuse_if true r = Refused r
-refuse_if false r = Done
+refuse_if true r = Err r
+refuse_if false r = Ok tt
 
 -- a test's answer
 abbrev pub Decides : Bool → Type 0 → Type 0
 Decides true A = A
 Decides false A = A → ⊥
 
--- done exactly if the shapes fit: then what follows; else nothing has changed
-abbrev pub DoneIf : Bool → Type 0 → Type 0 → Type 0 → Type 0
-DoneIf true fits follows unchanged = fits × follows
-DoneIf false fits follows unchanged = (fits → ⊥) × unchanged
+-- taken exactly if the shapes fit: then what follows of the value; else nothing has changed
+abbrev pub Taken : {A : Type 0} → Result A Unfit → Type 0 → (A → Type 0) → Type 0 → Type 0
+Taken (Ok a) fits follows unchanged = fits × follows a
+Taken (Err e) fits follows unchanged = (fits → ⊥) × unchanged
 
 infixl 30 ◌and_then◌
 -- the first of two checks that refuses
 abbrev pub ◌and_then◌ : Outcome → Outcome → Outcome
-Done and_then o = o
-(Refused r) and_then o = Refused r
+(Ok t) and_then o = o
+(Err r) and_then o = Err r
 
 -- checks in order: the first that refuses
 abbrev pub first_after : Outcome → List Outcome → Outcome
@@ -62,9 +70,9 @@ first_after o [] = o
 first_after o (p ∷ ps) = first_after (o and_then p) ps
 
 abbrev pub first : List Outcome → Outcome
-first os = first_after Done os
+first os = first_after (Ok tt) os
 
 -- What a call promises, by the outcome of its checks: refused as they say, with nothing changed; or, where they pass, what follows
 pub record Promised (checks : Outcome) (refused : Refusal → Type 0) (follows : Type 0) : Type 0 where
-  pub stopped : (r : Refusal) → checks ≡ Refused r → refused r
-  pub past : checks ≡ Done → follows
+  pub stopped : (r : Refusal) → checks ≡ Err r → refused r
+  pub past : checks ≡ Ok tt → follows

@@ -7,18 +7,16 @@ use lib.ListN.{length, get_or, take, drop}
 use lib.Seq.{take_at}
 use Rattle.words.specs.Words.{Fit}
 use Rattle.wire.specs.Bytes.{Bytes}
-use Rattle.refusals.specs.declared.Outcome.{Outcome}
-use Rattle.refusals.specs.declared.Outcome.TheVariants.{Done, Refused}
-use Rattle.bundle.specs.Bundle.{Entry, body_words, both_kinds, count_of, bundle_checks, entry_at, entries_from, entries_of, bundle, meaning}
-use Rattle.bundle.specs.Answers.{Lookup, found, counted_in, find, told_of, lent_entry, unpacked_of}
-use Rattle.bundle.specs.declared.Counted.TheVariants as counted
-use Rattle.bundle.specs.declared.Told.{Told}
-use Rattle.bundle.specs.declared.Told.TheVariants as told
+use Rattle.std.specs.Prelude.{Result, Ok, Err}
+use Rattle.refusals.specs.declared.Refusal.{Refusal}
+use Rattle.refusals.specs.Outcome.{Outcome}
+use Rattle.bundle.specs.Bundle.{Entry, body_words, both_kinds, count_of, bundle_checks, entry_at, entries_from, entries_of, meaning}
+use Rattle.bundle.specs.Answers.{Lookup, counted_in, find, told_of, lent_entry, unpacked_of}
+use Rattle.bundle.specs.declared.Numbers.{Numbers}
 use Rattle.bundle.proofs.Exactly.{exactly, means}
 use Rattle.bundle.proofs.Meaning.{find_entry, lent_fit}
 use Rattle.pack.specs.Encode.{encode}
 use Rattle.pack.specs.Writing.{given, bundle_bytes, write_checks, Writable, written_by, written, output_by, output}
-use Rattle.pack.specs.declared.Written.TheVariants as answer
 use Rattle.pack.proofs.Lengths.{length_encode}
 use Rattle.pack.proofs.Passing.{writable, write_passes}
 use Rattle.roundtrip.specs.Trips.{kinds_of, row_counts_of, column_counts_of, words_of_all, start_of, words_given}
@@ -29,15 +27,15 @@ use Rattle.roundtrip.proofs.SameBytes.{same_bytes}
 
 -- ---- from bytes to bytes
 
-module _ (b : List ℕ) (done : bundle_checks both_kinds b ≡ Done) where
+module _ (b : List ℕ) (done : bundle_checks both_kinds b ≡ Ok tt) where
   -- entry i, lent as many words as `entry` tells
   lent : (i : ℕ) → i < count_of b → (a : EntryCall b i) (c : UnpackCall b i) → length c.words ≡ body_words (rows_in a.answer) (columns_in a.answer)
-      → lent_entry both_kinds i b c.words ≡ found (entry_at i b)
+      → lent_entry both_kinds i b c.words ≡ Ok (entry_at i b)
   unfolding told_of entry_at
   lent i h a c l =
-      let f : find i (meaning both_kinds b) ≡ found (entry_at i b) = find_entry both_kinds b Done (sym done) refl (count_of b) refl i h in
-      let t : a.answer ≡ told_of (found (entry_at i b)) = a.promise ∙ ap told_of f in
-      lent_fit (length c.words) (find i (meaning both_kinds b)) i (length c.words) b f (l ∙ ap (λ (x : Told). body_words (rows_in x) (columns_in x)) t) refl
+      let f : find i (meaning both_kinds b) ≡ Ok (entry_at i b) = find_entry both_kinds b (Ok tt) (sym done) refl (count_of b) refl i h in
+      let t : a.answer ≡ told_of (Ok (entry_at i b)) = a.promise ∙ ap told_of f in
+      lent_fit (length c.words) (find i (meaning both_kinds b)) i b f (l ∙ ap (λ (x : Result Numbers Refusal). body_words (rows_in x) (columns_in x)) t)
 
   -- what was told and left, from entry i on
   record ToldOf (i n : ℕ) (us : Unpacking b i n) : Type 0 where
@@ -51,8 +49,8 @@ module _ (b : List ℕ) (done : bundle_checks both_kinds b ≡ Done) where
   unfolding NoneRefused kinds_told rows_told columns_told words_left entries_from words_of_all told_of unpacked_of
   told_of_lem i zero none h = record { entries = tt; kinds = refl; rows = refl; columns = refl; words = refl }
   told_of_lem i (suc n) (next a c l us) h =
-      let f : lent_entry both_kinds i b c.words ≡ found (entry_at i b) = lent i (omega arith) a c l in
-      let t : c.answer ≡ told_of (found (entry_at i b)) = c.promise.0 ∙ ap told_of f in
+      let f : lent_entry both_kinds i b c.words ≡ Ok (entry_at i b) = lent i (omega arith) a c l in
+      let t : c.answer ≡ told_of (Ok (entry_at i b)) = c.promise.0 ∙ ap told_of f in
       let rest : ToldOf (i + 1) n us = told_of_lem (i + 1) n us (omega arith) in
       record {
         entries = (subst NotRefused (sym t) refl, rest.entries);
@@ -64,8 +62,8 @@ module _ (b : List ℕ) (done : bundle_checks both_kinds b ≡ Done) where
 
 -- a write of lists that give entries es
 written_back : (ks rs cs ws ks' rs' cs' ws' out b : List ℕ) (es : List Entry) → ks' ≡ ks → rs' ≡ rs → cs' ≡ cs → ws' ≡ ws → encode es ≡ b
-    → (write_checks both_kinds ks rs cs ws (length out) ≡ Done) × (given ks rs cs ws ≡ es) × (output both_kinds ks rs cs ws out ≡ b ++ drop (length b) out)
-    → (w : WriteCall ks' rs' cs' ws' out) → (w.answer ≡ answer.Bytes (length b)) × (w.out' ≡ b ++ drop (length b) out)
+    → (write_checks both_kinds ks rs cs ws (length out) ≡ Ok tt) × (given ks rs cs ws ≡ es) × (output both_kinds ks rs cs ws out ≡ b ++ drop (length b) out)
+    → (w : WriteCall ks' rs' cs' ws' out) → (w.answer ≡ Ok (length b)) × (w.out' ≡ b ++ drop (length b) out)
 unfolding written_by
 written_back ks rs cs ws ks' rs' cs' ws' out b es ek er ec ew back s w =
     let v : Writable both_kinds ks rs cs ws (length out) = writable both_kinds ks rs cs ws (length out) s.0 in
@@ -79,15 +77,15 @@ written_back ks rs cs ws ks' rs' cs' ws' out b es ek er ec ew back s w =
 
 -- Unpack every entry of bytes that `read` accepts: no call is refused. Write what the calls told and left: the answer is the length of those bytes, and they stand
 -- at the front of the output, with what stood there behind them.
-pub written_by_calls : (b : List ℕ) → Bytes b → (r : ReadCall b) (n : ℕ) → r.answer ≡ counted.Entries n → (us : Unpacking b 0 n)
+pub written_by_calls : (b : List ℕ) → Bytes b → (r : ReadCall b) (n : ℕ) → r.answer ≡ Ok n → (us : Unpacking b 0 n)
     → NoneRefused us
     × ((out : List ℕ) → length b ≤ length out → (w : WriteCall (kinds_told us) (rows_told us) (columns_told us) (words_left us) out)
-    → (w.answer ≡ answer.Bytes (length b)) × (w.out' ≡ b ++ drop (length b) out))
+    → (w.answer ≡ Ok (length b)) × (w.out' ≡ b ++ drop (length b) out))
 unfolding entries_of
 written_by_calls b f r n er us =
-    let x : (bundle_checks both_kinds b ≡ Done) × (count_of b ≡ n) = (exactly both_kinds b n).0 (sym r.promise ∙ er) in
+    let x : (bundle_checks both_kinds b ≡ Ok tt) × (count_of b ≡ n) = (exactly both_kinds b n).0 (sym r.promise ∙ er) in
     let es : List Entry = entries_from n 0 b in
-    let m : meaning both_kinds b ≡ bundle es = means both_kinds b es x.0 (ap (λ (k : ℕ). entries_from k 0 b) x.1) in
+    let m : meaning both_kinds b ≡ Ok es = means both_kinds b es x.0 (ap (λ (k : ℕ). entries_from k 0 b) x.1) in
     let t : ToldOf b x.0 0 n us = told_of_lem b x.0 0 n us (omega (arith, x.1)) in
     let back : encode es ≡ b = ap (λ (k : ℕ). encode (entries_from k 0 b)) (sym x.1) ∙ written_again both_kinds b f x.0 in (
       t.entries,
@@ -97,17 +95,17 @@ written_by_calls b f r n er us =
 
 -- ---- from lists to lists
 
-answered : (o : Outcome) (m n : ℕ) → written_by o m ≡ answer.Bytes n → (o ≡ Done) × (m ≡ n)
+answered : (o : Outcome) (m n : ℕ) → written_by o m ≡ Ok n → (o ≡ Ok tt) × (m ≡ n)
 unfolding written_by
-answered Done m n e = (refl, cc)
-answered (Refused r) m n e = (cc, cc)
+answered (Ok tt) m n e = (refl, cc)
+answered (Err r) m n e = (cc, cc)
 
 -- a write that answered n bytes; kinds are below 65,536 and words fit 64 bits, as in every slice
-module _ (ks rs cs ws out : List ℕ) (small : (i : ℕ) → get_or ks i 0 < 65536) (fit : Fit ws) (w : WriteCall ks rs cs ws out) (n : ℕ) (e : w.answer ≡ answer.Bytes n) where
+module _ (ks rs cs ws out : List ℕ) (small : (i : ℕ) → get_or ks i 0 < 65536) (fit : Fit ws) (w : WriteCall ks rs cs ws out) (n : ℕ) (e : w.answer ≡ Ok n) where
   abbrev B : List ℕ
   B = encode (given ks rs cs ws)
 
-  passed : (write_checks both_kinds ks rs cs ws (length out) ≡ Done) × (bundle_bytes (length ks) (length ws) ≡ n)
+  passed : (write_checks both_kinds ks rs cs ws (length out) ≡ Ok tt) × (bundle_bytes (length ks) (length ws) ≡ n)
   passed = answered (write_checks both_kinds ks rs cs ws (length out)) (bundle_bytes (length ks) (length ws)) n (sym w.promise.0 ∙ e)
 
   long : length B ≡ n
@@ -121,9 +119,9 @@ module _ (ks rs cs ws out : List ℕ) (small : (i : ℕ) → get_or ks i 0 < 655
 
   -- The first n bytes that it left are a bundle: `read` answers as many entries as were given; unpacking entry i, lent as many words as its rows take, answers
   -- kind, rows and columns number i of those given, and leaves the words given for it.
-  pub unpacked_by_calls : (length (take n w.out') ≡ n) × ((r : ReadCall (take n w.out')) → r.answer ≡ counted.Entries (length ks))
+  pub unpacked_by_calls : (length (take n w.out') ≡ n) × ((r : ReadCall (take n w.out')) → r.answer ≡ Ok (length ks))
       × ((i : ℕ) → i < length ks → (c : UnpackCall (take n w.out') i) → length c.words ≡ body_words (get_or rs i 0) (get_or cs i 0)
-      → (c.answer ≡ told.Numbers (get_or ks i 0) (get_or rs i 0) (get_or cs i 0)) × (c.words' ≡ words_given i rs cs ws))
+      → (c.answer ≡ Ok (record { kind = get_or ks i 0; rows = get_or rs i 0; columns = get_or cs i 0 })) × (c.words' ≡ words_given i rs cs ws))
   unpacked_by_calls = (
     ap length front ∙ long,
     λ r. r.promise ∙ ap (λ (b : List ℕ). counted_in (meaning both_kinds b)) front ∙ counted_again both_kinds ks rs cs ws (length out) fit small passed.0,
@@ -138,7 +136,7 @@ module _ (ks rs cs ws out : List ℕ) (small : (i : ℕ) → get_or ks i 0 < 655
 
 -- Whatever can be written (pack/specs/Writing: `Writable`) is answered with a number of bytes; so is the sample (Written: `sample_answered`).
 pub passes_written : (ks rs cs ws out : List ℕ) → Writable both_kinds ks rs cs ws (length out) → (w : WriteCall ks rs cs ws out)
-    → w.answer ≡ answer.Bytes (bundle_bytes (length ks) (length ws))
+    → w.answer ≡ Ok (bundle_bytes (length ks) (length ws))
 unfolding written_by
 passes_written ks rs cs ws out v w =
     w.promise.0 ∙ ap (λ (o : Outcome). written_by o (bundle_bytes (length ks) (length ws))) (write_passes both_kinds ks rs cs ws (length out) v)

@@ -9,8 +9,8 @@ use Rattle.wire.specs.Bytes.{Bytes, bytes_of}
 use Rattle.wire.specs.Kinds.{words_at, bytes_of_words}
 use Rattle.wire.proofs.Bytes.{bytes_num}
 use Rattle.wire.proofs.Orders.{bytes_words}
-use Rattle.refusals.specs.declared.Outcome.{Outcome}
-use Rattle.refusals.specs.declared.Outcome.TheVariants.{Done}
+use Rattle.std.specs.Prelude.{Ok}
+use Rattle.refusals.specs.Outcome.{Outcome}
 use Rattle.bundle.specs.Bundle.{Entry, head_bytes, count_of, kind_at, rows_at, columns_at, offset_at, words_in, entries_checks, bundle_checks, entry_at, entries_from, entries_of, Accepted}
 use Rattle.bundle.proofs.Bodies.{flat_matrix}
 use Rattle.bundle.proofs.Meaning.{count_from}
@@ -33,7 +33,7 @@ head_again i b f h =
     ∙ sym (take-add 2 8 d)
 
 module _ (rule : ℕ → Outcome) (b : List ℕ) (f : Bytes b) where
-  contents_again : (k i p : ℕ) → entries_checks rule k i p b ≡ Done → head_bytes (i + k) ≤ length b
+  contents_again : (k i p : ℕ) → entries_checks rule k i p b ≡ Ok tt → head_bytes (i + k) ≤ length b
       → contents_of p (entries_from k i b) ≡ take (10 * k) (drop (head_bytes i) b)
   unfolding contents_of entries_from entry_at
   contents_again zero i p e h = refl
@@ -47,7 +47,7 @@ module _ (rule : ℕ → Outcome) (b : List ℕ) (f : Bytes b) where
       ∙ ap (take (10 * k)) (sym (drop-drop 10 (head_bytes i) b ∙ ap (λ (j : ℕ). drop j b) n)))
       ∙ sym (take-add 10 (10 * k) (drop (head_bytes i) b)) ∙ ap (λ (j : ℕ). take j (drop (head_bytes i) b)) t
 
-  bodies_again : (k i p : ℕ) → entries_checks rule k i p b ≡ Done → bodies_of (entries_from k i b) ≡ drop p b
+  bodies_again : (k i p : ℕ) → entries_checks rule k i p b ≡ Ok tt → bodies_of (entries_from k i b) ≡ drop p b
   unfolding bodies_of body_of entries_from entry_at
   bodies_again zero i p e =
       let z : p ≡ length b = entries_end rule i p b e in
@@ -62,7 +62,7 @@ module _ (rule : ℕ → Outcome) (b : List ℕ) (f : Bytes b) where
       ∙ take-append-drop (8 * words_in i b) (drop p b)
 
 -- the bytes of an accepted bundle are those of its entries
-pub written_again : (rule : ℕ → Outcome) (b : List ℕ) → Bytes b → bundle_checks rule b ≡ Done → encode (entries_of b) ≡ b
+pub written_again : (rule : ℕ → Outcome) (b : List ℕ) → Bytes b → bundle_checks rule b ≡ Ok tt → encode (entries_of b) ≡ b
 unfolding encode entries_of
 written_again rule b f e =
     let a : Accepted rule b = accepted rule b e in

@@ -13,10 +13,9 @@ use Rattle.wire.specs.Bytes.{num, bytes_of}
 use Rattle.wire.specs.Kinds.{words_at}
 use Rattle.wire.proofs.Bytes.{length_bytes, num_at}
 use Rattle.wire.proofs.Orders.{words_at_lem}
-use Rattle.refusals.specs.declared.Outcome.{Outcome}
-use Rattle.refusals.specs.declared.Outcome.TheVariants.{Done}
 use Rattle.words.proofs.Padding.{narrow_row}
-use Rattle.refusals.specs.Outcome.{first}
+use Rattle.std.specs.Prelude.{Ok}
+use Rattle.refusals.specs.Outcome.{Outcome, first}
 use Rattle.refusals.specs.Checks.{Sized}
 use Rattle.refusals.proofs.Chain.{Passes, done_then}
 use Rattle.refusals.proofs.Passed.{done_same}
@@ -29,7 +28,7 @@ use Rattle.pack.proofs.Lengths.{length_head, length_contents, length_body}
 
 -- an entry that can stand in a bundle
 pub record Proper (rule : ℕ → Outcome) (e : Entry) : Type 0 where
-  pub taken : rule e.kind ≡ Done
+  pub taken : rule e.kind ≡ Ok tt
   pub small : e.kind < 65536
   pub shape : Sized 512 e.rows e.columns
   pub size : length e.matrix ≡ e.rows
@@ -174,7 +173,7 @@ same_entry e i p b s =
 
 entries_again : (rule : ℕ → Outcome) (es : List Entry) (i p : ℕ) (pre mid b : List ℕ) → Propers rule es → length pre ≡ head_bytes i
     → p ≡ head_bytes (i + length es) + length mid → length b ≤ 65535 → b ≡ pre ++ (contents_of p es ++ (mid ++ bodies_of es))
-    → (entries_checks rule (length es) i p b ≡ Done) × (entries_from (length es) i b ≡ es)
+    → (entries_checks rule (length es) i p b ≡ Ok tt) × (entries_from (length es) i b ≡ es)
 unfolding contents_of bodies_of entries_checks entries_from
 entries_again rule [] i p pre mid b ps lp ep short eb =
     let q : length b ≡ length pre + (length mid + 0) = ap length eb ∙ length-append pre (mid ++ []) ∙ ap (λ (k : ℕ). length pre + k) (length-append mid []) in
@@ -195,14 +194,14 @@ entries_again rule (e ∷ es) i p pre mid b (one pr ps) lp ep short eb =
 
 -- a written bundle is accepted, and its entries are those written
 pub read_again : (rule : ℕ → Outcome) (es : List Entry) → Propers rule es → 0 < length es → length es ≤ 64 → length (encode es) ≤ 65535
-    → (bundle_checks rule (encode es) ≡ Done) × (entries_of (encode es) ≡ es)
+    → (bundle_checks rule (encode es) ≡ Ok tt) × (entries_of (encode es) ≡ es)
 unfolding encode entries_of
 read_again rule es ps any few short =
     let n : ℕ = length es in
     let p : ℕ = head_bytes n in
     let b : List ℕ = encode es in
     let c : count_of b ≡ n = num_at 2 0 n [] (contents_of p es ++ bodies_of es) refl (two n (omega arith)) in
-    let w : (entries_checks rule n 0 p b ≡ Done) × (entries_from n 0 b ≡ es) = entries_again rule es 0 p (bytes_of 2 n) [] b ps (length_bytes 2 n) (omega arith) short refl in
+    let w : (entries_checks rule n 0 p b ≡ Ok tt) × (entries_from n 0 b ≡ es) = entries_again rule es 0 p (bytes_of 2 n) [] b ps (length_bytes 2 n) (omega arith) short refl in
     let l : length b ≡ 2 + (10 * n + length (bodies_of es)) =
     length-append (bytes_of 2 n) (contents_of p es ++ bodies_of es)
     ∙ ap₂ ◌+◌ (length_bytes 2 n) (length-append (contents_of p es) (bodies_of es) ∙ ap (λ (k : ℕ). k + length (bodies_of es)) (length_contents p es)) in (

@@ -13,12 +13,11 @@ use Rattle.words.proofs.Flat.{length_flat, fit_flat, fit_append}
 use Rattle.wire.specs.Bytes.{Bytes}
 use Rattle.wire.specs.Kinds.{words_at}
 use Rattle.wire.proofs.Bytes.{num_lt}
-use Rattle.refusals.specs.declared.Outcome.{Outcome}
-use Rattle.refusals.specs.declared.Outcome.TheVariants.{Done}
+use Rattle.std.specs.Prelude.{Ok}
+use Rattle.refusals.specs.Outcome.{Outcome}
 use Rattle.refusals.proofs.Passed.{done_then}
-use Rattle.bundle.specs.Bundle.{Entry, body_words, head_bytes, count_of, kind_at, rows_at, columns_at, offset_at, words_in, matrix_at, entries_checks, entry_at, entries_from, entries_of, bundle, meaning, Accepted}
+use Rattle.bundle.specs.Bundle.{Entry, body_words, head_bytes, count_of, kind_at, rows_at, columns_at, offset_at, words_in, matrix_at, entries_checks, entry_at, entries_from, entries_of, meaning, Accepted}
 use Rattle.bundle.specs.Answers.{told_of, lent_entry, unpacked_of}
-use Rattle.bundle.specs.declared.Told.TheVariants as told
 use Rattle.bundle.proofs.Passing.{shape_passes, entries_step, accepted}
 use Rattle.pack.specs.Encode.{encode}
 use Rattle.pack.specs.Writing.{given, shapes_checks, all_words, all_narrow, bundle_bytes, write_checks, output_by, output}
@@ -33,7 +32,7 @@ use Rattle.roundtrip.proofs.FromEntries.{Propers, none, one}
 use Rattle.bundle.proofs.Exactly.{meant}
 use Rattle.roundtrip.proofs.FromLists.{unpacks_again}
 
-proper_entries : (rule : ℕ → Outcome) (k i p : ℕ) (b : List ℕ) → Bytes b → entries_checks rule k i p b ≡ Done → Propers rule (entries_from k i b)
+proper_entries : (rule : ℕ → Outcome) (k i p : ℕ) (b : List ℕ) → Bytes b → entries_checks rule k i p b ≡ Ok tt → Propers rule (entries_from k i b)
 unfolding entries_from entry_at matrix_at
 proper_entries rule zero i p b f e = none
 proper_entries rule (suc k) i p b f e =
@@ -54,7 +53,7 @@ record Lists (rule : ℕ → Outcome) (es : List Entry) : Type 0 where
   pub many : length (kinds_of es) ≡ length es
   pub rows_too : length (row_counts_of es) ≡ length (kinds_of es)
   pub columns_too : length (column_counts_of es) ≡ length (kinds_of es)
-  pub shapes : shapes_checks rule (kinds_of es) (row_counts_of es) (column_counts_of es) ≡ Done
+  pub shapes : shapes_checks rule (kinds_of es) (row_counts_of es) (column_counts_of es) ≡ Ok tt
   pub total : all_words (row_counts_of es) (column_counts_of es) ≡ length (words_of_all es)
   pub clean : all_narrow es ≡ true
   pub small : (i : ℕ) → get_or (kinds_of es) i 0 < 65536
@@ -89,7 +88,7 @@ lists rule (e ∷ es) (one pr ps) =
       fit = fit_append X (words_of_all es) (fit_flat w e.matrix) F.fit;
     }
 
-module _ (rule : ℕ → Outcome) (b : List ℕ) (es : List Entry) (f : Bytes b) (e : meaning rule b ≡ bundle es) where
+module _ (rule : ℕ → Outcome) (b : List ℕ) (es : List Entry) (f : Bytes b) (e : meaning rule b ≡ Ok es) where
   abbrev K : List ℕ
   K = kinds_of es
 
@@ -116,7 +115,7 @@ module _ (rule : ℕ → Outcome) (b : List ℕ) (es : List Entry) (f : Bytes b)
   same : encode (given K R C W) ≡ b
   same = ap encode (F.back ∙ sym (meant rule b es e).1) ∙ written_again rule b f (meant rule b es e).0
 
-  passes : (room : ℕ) → length b ≤ room → write_checks rule K R C W room ≡ Done
+  passes : (room : ℕ) → length b ≤ room → write_checks rule K R C W room ≡ Ok tt
   passes room h =
       let l : bundle_bytes (length K) (length W) ≡ length b = sym (length_encode K R C W F.rows_too F.columns_too F.total) ∙ ap length same in
       write_passes rule K R C W room
@@ -134,7 +133,7 @@ module _ (rule : ℕ → Outcome) (b : List ℕ) (es : List Entry) (f : Bytes b)
 
   -- the writer takes the lists, they give the entries, and it writes the bundle and nothing past it
   pub same_bytes : (out : List ℕ) → length b ≤ length out
-      → (write_checks rule (kinds_of es) (row_counts_of es) (column_counts_of es) (words_of_all es) (length out) ≡ Done)
+      → (write_checks rule (kinds_of es) (row_counts_of es) (column_counts_of es) (words_of_all es) (length out) ≡ Ok tt)
       × (given (kinds_of es) (row_counts_of es) (column_counts_of es) (words_of_all es) ≡ es)
       × (output rule (kinds_of es) (row_counts_of es) (column_counts_of es) (words_of_all es) out ≡ b ++ drop (length b) out)
   unfolding output_by
@@ -142,7 +141,7 @@ module _ (rule : ℕ → Outcome) (b : List ℕ) (es : List Entry) (f : Bytes b)
 
   -- the lists are those that the calls give: entry i has its numbers at place i, and its words after those of the entries before it
   pub unpacked : (i : ℕ) → i < count_of b → (words : List ℕ) → length words ≡ body_words (get_or (row_counts_of es) i 0) (get_or (column_counts_of es) i 0)
-      → (told_of (lent_entry rule i b words) ≡ told.Numbers (get_or (kinds_of es) i 0) (get_or (row_counts_of es) i 0) (get_or (column_counts_of es) i 0))
+      → (told_of (lent_entry rule i b words) ≡ Ok (record { kind = get_or (kinds_of es) i 0; rows = get_or (row_counts_of es) i 0; columns = get_or (column_counts_of es) i 0 }))
       × (unpacked_of (lent_entry rule i b words) words ≡ take (length words) (drop (start_of i (row_counts_of es) (column_counts_of es)) (words_of_all es)))
   unpacked i h words l =
       rw same at (unpacks_again rule K R C W (length b) F.fit F.small (passes (length b) (omega arith)) i (omega (arith, many)) words l)

@@ -1,59 +1,57 @@
 -- Calls on bundles: what each was given, what it answered and what it left. Its promise, word for word, says how these belong together.
-use Rattle.std.specs.Prelude.{◌≡◌, refl, List, [], ◌∷◌, ◌++◌, ℕ, zero, suc, ◌+◌, length, replicate}
+use Rattle.std.specs.Prelude.{◌≡◌, refl, List, [], ◌∷◌, ◌++◌, ℕ, zero, suc, ◌+◌, length, replicate, Result, Ok, Err}
 use Rattle.std.proofs.lemmas.List.{length-replicate}
 use Rattle.words.specs.Words.{rows_of, flat, narrow}
 use Rattle.wire.specs.Bytes.{num}
 use Rattle.wire.specs.Kinds.{order, words_at}
+use Rattle.refusals.specs.declared.Refusal.{Refusal}
 use Rattle.refusals.specs.Checks.{too_many_rows, bad_columns, size_checks}
 use Rattle.bundle.specs.Bundle.{body_words, kind_rule, both_kinds, bad_shape, matrix_at, body_order, entry_order, entries_checks, bundle_order, entry_at, entries_from, entries_of, meaning}
 use Rattle.bundle.specs.Answers.{counted_in, entry_in, find, told_of, lent_for, lent_entry, unpacked_of}
 use Rattle.bundle.specs.Sample.{sample}
-use Rattle.bundle.specs.declared.Counted.{Counted}
-use Rattle.bundle.specs.declared.Told.{Told}
-use Rattle.bundle.specs.declared.Told.TheVariants as told
+use Rattle.bundle.specs.declared.Numbers.{Numbers}
 use Rattle.pack.specs.Writing.{written, output}
-use Rattle.pack.specs.declared.Written.{Written}
 
 -- bundle::read of bytes b
 pub record ReadCall (b : List ℕ) : Type 0 where
-  pub answer : Counted
+  pub answer : Result ℕ Refusal
   pub promise : answer ≡ counted_in (meaning both_kinds b)
 
 -- bundle::entry of bytes b and a number i
 pub record EntryCall (b : List ℕ) (i : ℕ) : Type 0 where
-  pub answer : Told
+  pub answer : Result Numbers Refusal
   pub promise : answer ≡ told_of (find i (meaning both_kinds b))
 
 -- bundle::unpack of bytes b and a number i; the words as they were lent, and as the call left them
 pub record UnpackCall (b : List ℕ) (i : ℕ) : Type 0 where
   pub words : List ℕ
-  pub answer : Told
+  pub answer : Result Numbers Refusal
   pub words' : List ℕ
   pub promise : (answer ≡ told_of (lent_entry both_kinds i b words)) × (words' ≡ unpacked_of (lent_entry both_kinds i b words) words)
 
 -- pack::write of kinds, rows, columns and words; the output as it was lent, and as the call left it
 pub record WriteCall (ks rs cs ws out : List ℕ) : Type 0 where
-  pub answer : Written
+  pub answer : Result ℕ Refusal
   pub out' : List ℕ
   pub promise : (answer ≡ written both_kinds ks rs cs ws (length out)) × (out' ≡ output both_kinds ks rs cs ws out)
 
 -- ---- the numbers in an answer; a refusal has none
 
-abbrev pub kind_in : Told → ℕ
-kind_in (told.Numbers kind rows columns) = kind
-kind_in (told.Refused r) = 0
+abbrev pub kind_in : Result Numbers Refusal → ℕ
+kind_in (Ok n) = n.kind
+kind_in (Err r) = 0
 
-abbrev pub rows_in : Told → ℕ
-rows_in (told.Numbers kind rows columns) = rows
-rows_in (told.Refused r) = 0
+abbrev pub rows_in : Result Numbers Refusal → ℕ
+rows_in (Ok n) = n.rows
+rows_in (Err r) = 0
 
-abbrev pub columns_in : Told → ℕ
-columns_in (told.Numbers kind rows columns) = columns
-columns_in (told.Refused r) = 0
+abbrev pub columns_in : Result Numbers Refusal → ℕ
+columns_in (Ok n) = n.columns
+columns_in (Err r) = 0
 
 -- an answer that is no refusal
-abbrev pub NotRefused : Told → Type 0
-NotRefused t = t ≡ told.Numbers (kind_in t) (rows_in t) (columns_in t)
+abbrev pub NotRefused : Result Numbers Refusal → Type 0
+NotRefused t = t ≡ Ok (record { kind = kind_in t; rows = rows_in t; columns = columns_in t })
 
 -- ---- unpacking entry by entry
 
@@ -93,7 +91,7 @@ module _ {b : List ℕ} where
 unfoldable pub unpacking : (b : List ℕ) (i n : ℕ) → Unpacking b i n
 unpacking b i zero = none
 unpacking b i (suc n) =
-    let t : Told = told_of (find i (meaning both_kinds b)) in
+    let t : Result Numbers Refusal = told_of (find i (meaning both_kinds b)) in
     let size : ℕ = body_words (rows_in t) (columns_in t) in
     let ws : List ℕ = replicate size 0 in
     next (record { answer = t; promise = refl })

@@ -1,6 +1,6 @@
 -- The sheet of examples P1 to P11: what is asked, what an answer means in the words of the calls' contracts, and the table. That each answer of the table
 -- is right is one theorem, `sheet_holds` in proofs/Holds.
-use Rattle.std.specs.Prelude.{◌≡◌, cond, List, [], ◌∷◌, map, ℕ, ◌+◌, ◌-◌, ◌*◌, ◌^◌, ◌<◌, eqb, length}
+use Rattle.std.specs.Prelude.{◌≡◌, cond, List, [], ◌∷◌, map, ℕ, ◌+◌, ◌-◌, ◌*◌, ◌^◌, ◌<◌, eqb, length, Err}
 use Prim.Native.Char.{code}
 use Prim.Native.String.{String, [] as end, ◌∷◌ as ◌then◌}
 use Rattle.gf2.specs.Rows.{Matrix}
@@ -11,7 +11,7 @@ use Rattle.images.specs.Packets.{Contradictory}
 use Rattle.images.specs.ReadOff.{unknown_block}
 use Rattle.refusals.specs.declared.Refusal.TheVariants as refusal
 use Rattle.refusals.specs.Outcome.{number_of}
-use Rattle.matrix.specs.Calls.{refused_answer}
+use Rattle.matrix.specs.Calls.{figures}
 use Rattle.packets.specs.Solving.{Solved}
 use Rattle.packets.specs.Contradiction.{Names}
 
@@ -72,7 +72,7 @@ abbrev pub Refuses : Question → ℕ → Type 0
 Refuses (ask_reduction columns L ks) number = ⊥
 Refuses (ask_inverse n A) number = ((X : List ℕ) → Inverse n A X → ⊥) × (number ≡ number_of refusal.NoInverse)
 Refuses (ask_solution n p L) number =
-    Contradictory n p L × (number ≡ number_of refusal.Contradictory) × ((refused_answer refusal.Contradictory).known ≡ 0)
+    Contradictory n p L × (number ≡ number_of refusal.Contradictory) × ((figures (Err refusal.Contradictory)).known ≡ 0)
 Refuses (ask_names n p L) number = ⊥
 
 abbrev pub Holds : Example → Type 0

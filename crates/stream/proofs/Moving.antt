@@ -1,7 +1,7 @@
 -- What was moved in two steps stands one after the other at the front.
-use Rattle.std.proofs.Common.{◌≡◌, ℕ, ◌+◌, ◌-◌, ◌≤◌, List, ◌++◌, length, take, drop, Option, sym, ap, ◌∙◌, subst, le_refl, drop_at, length-take-le}
+use Rattle.std.proofs.Common.{◌≡◌, ℕ, ◌+◌, ◌-◌, ◌≤◌, List, ◌++◌, length, take, drop, Option, sym, ap, ◌∙◌, subst, le_refl, drop_at, length-drop, length-take-le, arith}
 use Rattle.std.proofs.lemmas.Slice.{take-put_mid_below}
-use Rattle.std.proofs.lemmas.List.{take_rest}
+use Rattle.std.proofs.lemmas.List.{take_rest, drop-drop}
 use Rattle.std.specs.Io.KnownBytes.{Consumes, Appends}
 use Rattle.std.proofs.KnownBytes.{Consumes-trans, Appends-trans}
 use borrow.Rule.Slice.PartMut.{put_mid, post_of}
@@ -21,7 +21,18 @@ pub read_more : (a b c : Option (List ℕ)) (at room n : ℕ) (xs part : List �
 read_more a b c at room n xs part within fits before here =
     subst (Consumes a c) (front_of_put_mid at room n xs part within fits) (Consumes-trans a b c _ _ before here)
 
-pub written_more : (a b c : Option (List ℕ)) (at n : ℕ) (xs : List ℕ) → Appends a b (take at xs) → Appends b c (take n (take (length xs - at) (drop at xs))) → Appends a c (take (at + n) xs)
-written_more a b c at n xs before here =
-    let rest = subst (λ l. Appends b c (take n l)) (take_rest xs at) here in
-    subst (Appends a c) (sym (take-add at n xs)) (Appends-trans a b c _ _ before rest)
+-- some front of the bytes went, and the rest is still to go
+pub record Begun (a b : Option (List ℕ)) (bytes rest : List ℕ) : Type 0 where
+  pub n : ℕ
+  pub within : n ≤ length bytes
+  pub left : rest ≡ drop n bytes
+  pub went : Appends a b (take n bytes)
+
+pub written_more : (a b c : Option (List ℕ)) (n : ℕ) (bytes rest : List ℕ) → Begun a b bytes rest → n ≤ length rest → Appends b c (take n rest)
+    → Begun a c bytes (take (length rest - n) (drop n rest))
+written_more a b c n bytes rest begun within here = record {
+  n = begun.n + n;
+  within = omega (arith, begun.within, within, simp length-drop at (ap length begun.left));
+  left = take_rest rest n ∙ ap (drop n) begun.left ∙ drop-drop n begun.n bytes;
+  went = subst (Appends a c) (sym (take-add begun.n n bytes)) (Appends-trans a b c _ _ begun.went (subst (λ l. Appends b c (take n l)) begun.left here));
+}

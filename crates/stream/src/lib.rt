@@ -1,123 +1,90 @@
 #![tactic(auto)]
 // Streams, read to their end and written whole. What was interrupted, or would wait, is tried again; whatever else fails is told.
-ghost use Rattle.std.specs.Prelude.{◌≡◌, true, false, ◌<◌, length};
-ghost use Rattle.std.specs.Io.KnownBytes.{Appends};
-ghost use Rattle.stream.specs.Stream.{Within, ReadSome, ReadFull, WrittenSome, AppendsFront};
+ghost use Rattle.std.specs.Prelude.{◌≡◌, length, IsOk, OnOk, OnErr};
+ghost use Rattle.std.specs.Io.KnownBytes.{Appends, ReadConsumes, WriteAppends};
+ghost use Rattle.stream.specs.Stream.{Within, ReadFull, AppendsFront, Tried};
 
 use std::io::{ErrorKind, Read, Write};
-use std::thread;
+use std::{io, thread};
 
 // how often in a row a stream may have nothing to give or to take before it has failed: some seconds
-const TRIES: usize = 4000000;
+const TRIES: usize = 4_000_000;
 
-// how many bytes were read or written; or that it failed
-#[derive(Clone, Copy)]
-pub enum Moved {
-    Bytes(usize),
-    Failed,
+// whether an error passes by itself
+fn passes(error: &io::Error) -> bool {
+    matches!(error.kind(), ErrorKind::Interrupted | ErrorKind::WouldBlock)
 }
 
-// whether what failed is to be tried again, after so many tries in vain; others run meanwhile
-fn again(error: ErrorKind, tries: usize) -> bool
-    ensures { result ≡ true → tries < 4000000 }
+// one step, tried again while its error passes by itself; others run meanwhile
+fn patiently<F: FnMut() -> io::Result<usize>>(step: &mut F) -> io::Result<usize>
+    requires { F.IsAlwaysCallable step.old }
+    ensures { Tried F.step step.old result step.new }
 {
-    if tries < TRIES {
-        // the errors that pass by themselves
-        if error == ErrorKind::Interrupted || error == ErrorKind::WouldBlock {
-            thread::yield_now();
-            return true;
+    for _ in 0..TRIES {
+        match step() {
+            Err(e) if passes(&e) => thread::yield_now(),
+            result => return result,
         }
     }
-    false
+    step()
 }
 
-// one read, tried again while its error passes by itself
-fn read_some<R: Read>(stream: &mut R, part: &mut [u8]) -> Moved
+// one read
+fn read_some<R: Read>(stream: &mut R, part: &mut [u8]) -> io::Result<usize>
     ensures within { Within (length part.old) result }
-    ensures bytes { ReadSome (R.remaining stream.old) (R.remaining stream.new) result part.new }
+    ensures bytes { ReadConsumes (R.remaining stream.old) (R.remaining stream.new) result part.new }
 {
-    let mut tries = 0;
-    loop {
-        match stream.read(part) {
-            Ok(n) => return Moved::Bytes(n),
-            Err(e) => {
-                if !again(e.kind(), tries) {
-                    return Moved::Failed;
-                }
-                tries += 1;
-            }
-        }
-    }
+    patiently(&mut || stream.read(part))
 }
 
-// one write, tried again in the same way
-fn write_some<W: Write>(stream: &mut W, part: &[u8]) -> Moved
+// one write
+fn write_some<W: Write>(stream: &mut W, part: &[u8]) -> io::Result<usize>
     ensures within { Within (length part.now) result }
-    ensures bytes { WrittenSome (W.contents stream.old) (W.contents stream.new) result part.now }
+    ensures bytes { WriteAppends (W.contents stream.old) (W.contents stream.new) result part.now }
 {
-    let mut tries = 0;
-    loop {
-        match stream.write(part) {
-            Ok(n) => return Moved::Bytes(n),
-            Err(e) => {
-                if !again(e.kind(), tries) {
-                    return Moved::Failed;
-                }
-                tries += 1;
-            }
-        }
-    }
+    patiently(&mut || stream.write(part))
 }
 
-// reads until the stream ends or the buffer is full
-pub fn read<R: Read>(stream: &mut R, buffer: &mut [u8]) -> Moved
+// reads until the stream ends or the buffer is full; answers how many bytes came
+#[tactic(auto, using(crate::proofs::Moving::read_more))]
+pub fn read<R: Read>(stream: &mut R, buffer: &mut [u8]) -> io::Result<usize>
     ensures within { Within (length buffer.old) result }
     ensures bytes { ReadFull (R.remaining stream.old) (R.remaining stream.new) result buffer.new }
 {
-    let len = buffer.len();
     let mut at = 0;
-    while at < len {
-        let moved = read_some(stream, &mut buffer[at..]);
-        match moved {
-            Moved::Bytes(n) => {
-                if n == 0 {
-                    return Moved::Bytes(at);
-                }
-                at += n;
-            }
-            Moved::Failed => return Moved::Failed,
+    // no index is counted: each turn goes on by as many bytes as came
+    while at < buffer.len() {
+        let n = read_some(stream, &mut buffer[at..])?;
+        if n == 0 {
+            break;
         }
+        at += n;
     }
-    Moved::Bytes(at)
+    Ok(at)
 }
 
-// writes all bytes; answers whether the stream took them
-pub fn write<W: Write>(stream: &mut W, bytes: &[u8]) -> bool
-    ensures empty { length bytes.now ≡ 0 → result ≡ true }
-    ensures whole { result ≡ true → Appends (W.contents stream.old) (W.contents stream.new) bytes.now }
-    ensures begun { result ≡ false → AppendsFront (W.contents stream.old) (W.contents stream.new) bytes.now }
+// writes all bytes
+#[tactic(auto, using(crate::proofs::Moving::written_more))]
+pub fn write<W: Write>(stream: &mut W, bytes: &[u8]) -> io::Result<()>
+    ensures empty { length bytes.now ≡ 0 → IsOk result }
+    ensures whole { OnOk result (Appends (W.contents stream.old) (W.contents stream.new) bytes.now) }
+    ensures begun { OnErr result (AppendsFront (W.contents stream.old) (W.contents stream.new) bytes.now) }
 {
-    let len = bytes.len();
-    let mut at = 0;
-    while at < len {
-        let moved = write_some(stream, &bytes[at..]);
-        match moved {
-            Moved::Bytes(n) => {
-                if n == 0 {
-                    return false;
-                }
-                at += n;
-            }
-            Moved::Failed => return false,
+    let mut rest = bytes;
+    // here too, by as many as went
+    while !rest.is_empty() {
+        let n = write_some(stream, rest)?;
+        if n == 0 {
+            return Err(io::Error::from(ErrorKind::WriteZero));
         }
+        rest = &rest[n..];
     }
-    true
+    Ok(())
 }
 
 #[cfg(test)]
 mod tests {
     use super::*;
-    use std::io;
 
     // Three bytes, one at a time, and before each an error that passes by itself; or an error that stays, at one of them.
     #[derive(Drop)]
@@ -183,33 +150,36 @@ mod tests {
         }
     }
 
-    // the number of bytes, or 99
-    fn number(moved: Moved) -> usize {
-        match moved {
-            Moved::Bytes(n) => n,
-            Moved::Failed => 99,
-        }
+    // of what kind the error is, if it is one
+    fn error<T: Drop>(answer: io::Result<T>) -> Option<ErrorKind> {
+        answer.err().map(|e| e.kind())
     }
 
     #[test]
     fn passing_errors_are_tried_again(rt: HostRuntime) {
         let mut stream = Halting::new(9);
-        assert!(rt; write(&mut stream, b"abc"));
+        assert!(rt; write(&mut stream, b"abc").is_ok());
         assert_eq!(rt; stream.bytes, *b"abc");
         stream.at = 0;
         let mut buffer = [0u8; 8];
-        assert_eq!(rt; number(read(&mut stream, &mut buffer)), 3);
+        assert_eq!(rt; read(&mut stream, &mut buffer).ok(), Some(3));
         assert_eq!(rt; buffer, *b"abc\0\0\0\0\0");
     }
 
     #[test]
     fn other_errors_are_told(rt: HostRuntime) {
         let mut stream = Halting::new(2);
-        assert!(rt; !write(&mut stream, b"abc"));
+        assert_eq!(rt;
+            error(write(&mut stream, b"abc")),
+            Some(ErrorKind::StorageFull)
+        );
         assert_eq!(rt; stream.bytes, *b"ab\0");
         stream.at = 0;
         stream.halted = false;
-        assert_eq!(rt; number(read(&mut stream, &mut [0u8; 8])), 99);
+        assert_eq!(rt;
+            error(read(&mut stream, &mut [0u8; 8])),
+            Some(ErrorKind::StorageFull)
+        );
     }
 
     // never has anything, and counts how often it is asked
@@ -228,7 +198,10 @@ mod tests {
     #[test]
     fn tries_are_bounded(rt: HostRuntime) {
         let mut stream = Waiting { asked: 0 };
-        assert_eq!(rt; number(read(&mut stream, &mut [0u8; 8])), 99);
+        assert_eq!(rt;
+            error(read(&mut stream, &mut [0u8; 8])),
+            Some(ErrorKind::WouldBlock)
+        );
         assert_eq!(rt; stream.asked, 4000001);
     }
 }

@@ -1,49 +1,60 @@
 #![tactic(auto)]
-// Text in a lent buffer. Each call puts its text at byte p, as much as there is room for, and answers where the text ends.
-ghost use Rattle.std.specs.Prelude.{◌≡◌, [], ◌∷◌, ◌+◌, min};
+// Text in a lent buffer, put one after the other, as much as there is room for.
+ghost use Rattle.std.specs.Prelude.{◌≡◌, [], ◌∷◌, ◌+◌};
 ghost use Rattle.gf2.specs.Rows.{bit};
 ghost use Rattle.words.specs.Words.{value};
-ghost use Rattle.text.specs.Text.{decimal as decimal_text, bits as bits_text};
-ghost use Rattle.text.specs.Put.{Put};
+ghost use Rattle.text.specs.Text.{decimal, bits};
+ghost use Rattle.text.specs.Put.{Written};
 
-// where to begin: not past the buffer
-fn start(p: usize, len: usize) -> usize
-    ensures { result ≡ min p len }
-{
-    if p < len { p } else { len }
+// a lent buffer, and where its text ends
+#[derive(Drop)]
+pub struct Page<'a> {
+    pub buffer: &'a mut [u8],
+    pub end: usize,
 }
 
-// one byte
-fn byte(out: &mut [u8], p: usize, x: u8) -> usize
-    ensures { Put p (x ∷ []) out.old result out.new }
-{
-    if p < out.len() {
-        out[p] = x;
-        return p + 1;
+impl<'a> Page<'a> {
+    // one byte
+    fn byte(&mut self, x: u8)
+        ensures { Written (x ∷ []) self.old self.new }
+    {
+        let len = self.buffer.len();
+        if self.end < len {
+            self.buffer[self.end] = x;
+            self.end += 1;
+        } else {
+            self.end = len;
+        }
     }
-    out.len()
-}
 
-// the bytes of a text
-pub fn bytes(out: &mut [u8], p: usize, text: &[u8]) -> usize
-    ensures { Put p text.now out.old result out.new }
-{
-    let mut q = start(p, out.len());
-    let mut i = 0;
-    while i < text.len() {
-        q = byte(out, q, text[i]);
-        i += 1;
+    // the bytes of a text
+    pub fn bytes(&mut self, text: &[u8])
+        ensures { Written text.now self.old self.new }
+    {
+        let start = self.end.min(self.buffer.len());
+        let n = text.len().min(self.buffer.len() - start);
+        self.buffer[start..start + n].copy_from_slice(&text[..n]);
+        self.end = start + n;
     }
-    q
-}
 
-// a number in decimal
-pub fn decimal(out: &mut [u8], p: usize, n: usize) -> usize
-    ensures { Put p (decimal_text n) out.old result out.new }
-{
-    let mut text = [0u8; 20];
-    let k = io::decimal(n as u64, &mut text);
-    bytes(out, p, &text[..k])
+    // a number in decimal
+    pub fn decimal(&mut self, n: usize)
+        ensures { Written (decimal n) self.old self.new }
+    {
+        let mut digits = [0u8; 20];
+        let k = io::decimal(n as u64, &mut digits);
+        self.bytes(&digits[..k]);
+    }
+
+    // the columns of a row as zeros and ones
+    pub fn bits(&mut self, row: &[u64], columns: usize)
+        ensures { Written (bits columns (value row.now)) self.old self.new }
+    {
+        self.end = self.end.min(self.buffer.len());
+        for c in 0..columns {
+            self.byte(digit(row, c));
+        }
+    }
 }
 
 // column c of a row as the digit 0 or 1
@@ -51,18 +62,5 @@ fn digit(row: &[u64], c: usize) -> u8
     ensures { result ≡ 48 + bit c (value row.now) }
 {
     let word = words::word(row, 0, row.len(), c / 64);
-    48 + ((word >> (c % 64)) % 2) as u8
-}
-
-// the columns of a row as zeros and ones
-pub fn bits(out: &mut [u8], p: usize, row: &[u64], columns: usize) -> usize
-    ensures { Put p (bits_text columns (value row.now)) out.old result out.new }
-{
-    let mut q = start(p, out.len());
-    let mut c = 0;
-    while c < columns {
-        q = byte(out, q, digit(row, c));
-        c += 1;
-    }
-    q
+    b'0' + ((word >> (c % 64)) % 2) as u8
 }

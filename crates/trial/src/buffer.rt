@@ -1,82 +1,86 @@
-// Words and bits at any place of a buffer: all reads and stores are total. A row of so many columns takes whole words.
-pub const ONES: u64 = 18446744073709551615;
+// Matrices of bits in buffers of fixed length, in rows of whole words; all reads and stores are total.
 
-pub const LAST: usize = 18446744073709551615;
+// with which each lent buffer begins
+pub const ONES: u64 = u64::MAX;
 
 // what the buffers of a drawn try hold
 pub const WORDS: usize = 1024;
 
 pub const ROOM: usize = 4352;
 
-pub(crate) fn get(s: &[u64], i: usize) -> u64 {
-    if i < s.len() { s[i] } else { 0 }
-}
-
-// i times w and j more; past every buffer where the numbers are not small
-pub(crate) fn place(i: usize, w: usize, j: usize) -> usize {
-    if i <= 1024 {
-        if w <= 2048 {
-            if j <= 1024 {
-                return i * w + j;
-            }
-        }
-    }
-    LAST
+// The rows stand at the buffer's front.
+#[derive(Clone, Copy, PartialEq)]
+pub struct Matrix<const N: usize> {
+    pub rows: usize,
+    pub columns: usize,
+    pub buffer: [u64; N],
 }
 
 // the words of so many rows
 pub(crate) fn words(rows: usize, columns: usize) -> usize {
-    place(rows, std::num::wrapping_add_usize(columns, 63) / 64, 0)
+    rows.saturating_mul(columns.div_ceil(64))
 }
 
-pub(crate) fn bit(m: &[u64], columns: usize, i: usize, c: usize) -> bool {
-    (get(m, place(i, words(1, columns), c / 64)) >> (c % 64)) % 2 == 1
+// the first n, or all where there are fewer
+pub(crate) fn first<T>(s: &mut [T], n: usize) -> &mut [T] {
+    let end = n.min(s.len());
+    &mut s[..end]
 }
 
-// changes the bit in row i and column c, if `on`
-pub(crate) fn toggle(m: &mut [u64], columns: usize, i: usize, c: usize, on: bool) {
-    let p = place(i, words(1, columns), c / 64);
-    let v = get(m, p) ^ (if on { 1 << c % 64 } else { 0 });
-    if p < m.len() {
-        m[p] = v;
-    }
-}
-
-// the first n words, or none where there are fewer
-pub(crate) fn part(s: &mut [u64], n: usize) -> &mut [u64] {
-    if s.len() < n {
-        return &mut s[0..0];
-    }
-    &mut s[0..n]
-}
-
-pub(crate) fn same(s: &[u64], t: &[u64]) -> bool {
-    let n = s.len();
-    let mut i = 0;
-    while i < n {
-        if get(s, i) != get(t, i) {
-            return false;
+impl<const N: usize> Matrix<N> {
+    // over a buffer of that one word
+    pub(crate) fn over(word: u64, rows: usize, columns: usize) -> Self {
+        Matrix {
+            rows,
+            columns,
+            buffer: [word; N],
         }
-        i += 1;
     }
-    true
+
+    // the words of its rows
+    pub(crate) fn lent(&self) -> &[u64] {
+        let end = words(self.rows, self.columns).min(N);
+        &self.buffer[..end]
+    }
+
+    pub(crate) fn lent_mut(&mut self) -> &mut [u64] {
+        let end = words(self.rows, self.columns);
+        first(&mut self.buffer, end)
+    }
+
+    // where the word with the bit in row i and column c stands
+    fn place(&self, i: usize, c: usize) -> usize {
+        words(i, self.columns).saturating_add(c / 64)
+    }
+
+    pub(crate) fn bit(&self, i: usize, c: usize) -> bool {
+        let word = self.buffer.get(self.place(i, c)).copied().unwrap_or(0);
+        word >> (c % 64) & 1 == 1
+    }
+
+    // changes the bit in row i and column c
+    pub(crate) fn toggle(&mut self, i: usize, c: usize) {
+        let place = self.place(i, c);
+        if let Some(word) = self.buffer.get_mut(place) {
+            *word ^= 1 << (c % 64);
+        }
+    }
+
+    // whether all of the buffer is as it began, all ones
+    pub(crate) fn is_untouched(&self) -> bool {
+        is_zeroed(&self.buffer, 0)
+    }
 }
 
-// whether that many words are zero, and the others all ones, with which each lent buffer begins
-pub(crate) fn zeroed(s: &[u64], zeros: usize) -> bool {
-    let n = s.len();
-    let mut i = 0;
-    while i < n {
-        if get(s, i) != (if i < zeros { 0 } else { ONES }) {
-            return false;
-        }
-        i += 1;
-    }
-    true
+// whether that many words are zero, and the others all ones
+pub(crate) fn is_zeroed(s: &[u64], zeros: usize) -> bool {
+    s.iter()
+        .enumerate()
+        .all(|(i, &word)| word == if i < zeros { 0 } else { ONES })
 }
 
 // the same of a room, where so many rows and a table are needed
-pub(crate) fn cleared(room: &[u64], rows: usize, k: usize, columns: usize) -> bool {
-    let table = if k < 64 { 1 << k } else { 0 };
-    zeroed(room, words(place(1, table, rows), columns))
+pub(crate) fn is_cleared(room: &[u64], rows: usize, k: usize, columns: usize) -> bool {
+    let table = 1usize << (k % 64);
+    is_zeroed(room, words(table.saturating_add(rows), columns))
 }

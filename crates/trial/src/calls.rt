@@ -1,52 +1,54 @@
-// The calls, each lent as many of the buffers' first words as it asks for, and the whole room.
-use super::buffer;
-use super::draw::Case;
+// The calls, each lent the rows of its matrices and the whole room; a refusal is told by its number.
+use super::buffer::Matrix;
 use matrix::Answer;
 use packets::Verdict;
 
-pub(crate) fn reduce(m: &mut [u64], s: Case, room: &mut [u64]) -> Answer {
-    let part = buffer::part(m, buffer::words(s.rows, s.columns));
-    matrix::reduce(part, s.rows, s.columns, s.k, room)
+// the words of a row, as the row view shows them
+pub(crate) fn row<const N: usize>(m: &Matrix<N>, i: usize) -> &[u64] {
+    matrix::row_view(m.lent(), m.rows, m.columns, i)
 }
 
-pub(crate) fn invert(m: &mut [u64], s: Case, res: &mut [u64], room: &mut [u64]) -> u8 {
-    let part = buffer::part(m, buffer::words(s.rows, s.columns));
-    let back = buffer::part(res, buffer::words(s.rows, s.columns));
-    inverse::invert(part, s.rows, s.columns, s.k, back, room).number()
+pub(crate) fn reduce<const N: usize>(
+    m: &mut Matrix<N>,
+    k: usize,
+    room: &mut [u64],
+) -> Result<Answer, u8> {
+    let rows = m.rows;
+    let columns = m.columns;
+    matrix::reduce(m.lent_mut(), rows, columns, k, room).map_err(u8::from)
 }
 
-fn first_marks(s: &mut [u8], n: usize) -> &mut [u8] {
-    if s.len() < n {
-        return &mut s[0..0];
-    }
-    &mut s[0..n]
+pub(crate) fn invert<const N: usize>(
+    m: &Matrix<N>,
+    k: usize,
+    inverse: &mut Matrix<N>,
+    room: &mut [u64],
+) -> Result<(), u8> {
+    let result = inverse.lent_mut();
+    inverse::invert(m.lent(), m.rows, m.columns, k, result, room).map_err(u8::from)
 }
 
-pub(crate) fn solve(
-    m: &mut [u64],
-    s: Case,
-    image: &mut [u64],
+pub(crate) fn solve<const N: usize>(
+    m: &mut Matrix<N>,
+    k: usize,
+    image: &mut Matrix<N>,
     marks: &mut [u8],
     room: &mut [u64],
-) -> Answer {
-    let part = buffer::part(m, buffer::words(s.rows, s.columns));
-    let payload = if s.n < s.columns { s.columns - s.n } else { 0 };
-    let blocks = buffer::part(image, buffer::words(s.n, payload));
-    let bytes = first_marks(marks, s.n);
-    packets::solve(part, s.rows, s.columns, s.n, s.k, blocks, bytes, room)
+) -> Result<Answer, u8> {
+    let rows = m.rows;
+    let columns = m.columns;
+    let n = image.rows;
+    let blocks = image.lent_mut();
+    packets::solve(m.lent_mut(), rows, columns, n, k, blocks, marks, room).map_err(u8::from)
 }
 
-// 255 stands for "named"
-fn number(v: Verdict) -> u8 {
-    match v {
-        Verdict::Named => 255,
-        Verdict::None => 0,
-        Verdict::Refused(r) => refusals::number(r),
-    }
-}
-
-pub(crate) fn name(m: &mut [u64], s: Case, names: &mut [u64], room: &mut [u64]) -> u8 {
-    let part = buffer::part(m, buffer::words(s.rows, s.columns));
-    let out = buffer::part(names, buffer::words(1, s.rows));
-    number(packets::contradiction(part, s.rows, s.columns, s.n, s.k, out, room))
+pub(crate) fn name<const N: usize>(
+    m: &Matrix<N>,
+    n: usize,
+    k: usize,
+    names: &mut Matrix<N>,
+    room: &mut [u64],
+) -> Result<Verdict, u8> {
+    let named = names.lent_mut();
+    packets::contradiction(m.lent(), m.rows, m.columns, n, k, named, room).map_err(u8::from)
 }

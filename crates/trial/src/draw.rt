@@ -1,6 +1,20 @@
 // The generator, and the matrices and lists of packets that it draws.
-use super::{buffer, plain};
-use std::num;
+use super::buffer::Matrix;
+use super::plain;
+
+#[derive(Clone, Copy)]
+pub enum Kind {
+    Uniform,
+    Sparse,
+    // with nothing left of the diagonal
+    Diagonal,
+    // four rows, again and again
+    Repeated,
+    // nothing but in the last rows
+    LastRows,
+    // nothing but in the last columns
+    LastColumns,
+}
 
 // The numbers of a call, the kind of its matrix, and the generator's start. Where there are no packets n is the columns.
 #[derive(Clone, Copy)]
@@ -9,19 +23,16 @@ pub struct Case {
     pub columns: usize,
     pub n: usize,
     pub k: usize,
-    pub kind: usize,
-    pub x: u64,
+    pub kind: Kind,
+    pub seed: u64,
 }
 
-pub(crate) fn made(rows: usize, columns: usize, n: usize, k: usize, kind: usize, x: u64) -> Case {
-    Case {
-        rows: rows,
-        columns: columns,
-        n: n,
-        k: k,
-        kind: kind,
-        x: x,
-    }
+// what is drawn
+#[derive(Clone, Copy)]
+pub enum Drawn {
+    Any,
+    Square,
+    Packets,
 }
 
 // xorshift64
@@ -33,13 +44,10 @@ fn next(x: u64) -> u64 {
 
 // A number below n, or 0. The sums' carries matter: the generator alone is linear over the field of two elements.
 fn number(x: u64, n: usize) -> usize {
-    if n == 0 {
-        return 0;
-    }
-    let a = num::wrapping_add_u64(x, x << 29);
+    let a = x.wrapping_add(x << 29);
     let b = a ^ (a >> 32);
-    let v = num::wrapping_add_u64(b, b << 19);
-    (v >> 20) as usize % n
+    let v = b.wrapping_add(b << 19);
+    ((v >> 20) as usize).checked_rem(n).unwrap_or(0)
 }
 
 // small sizes, and sizes at the borders of words
@@ -52,81 +60,98 @@ fn size(n: usize) -> usize {
     }
 }
 
-// try t, with each k: a square matrix, a list of packets, or any matrix
-pub(crate) fn drawn(t: usize, square: bool, list: bool) -> Case {
-    let x = next(next(next((t as u64) << 8 | 129)));
-    let y = next(x);
-    let a = size(t / 8 % 12);
-    let sum = num::wrapping_add_usize(a, size(number(y, 12)));
-    let columns = if square { a } else { sum };
-    let rows = if square { a } else { number(next(y), 70) };
-    let n = if list { a } else { columns };
-    let kind = number(next(next(y)), if square { 3 } else { 6 });
-    made(rows, columns, n, t % 8 + 1, kind, x)
+impl Kind {
+    // the first six numbers are one of each
+    fn numbered(n: usize) -> Kind {
+        match n {
+            0 => Kind::Uniform,
+            1 => Kind::Sparse,
+            2 => Kind::Diagonal,
+            3 => Kind::Repeated,
+            4 => Kind::LastRows,
+            _ => Kind::LastColumns,
+        }
+    }
+}
+
+impl Drawn {
+    // try t, with each k; the kinds of square matrices are the first three
+    pub(crate) fn case(self, t: usize) -> Case {
+        let seed = next(next(next((t as u64) << 8 | 129)));
+        let y = next(seed);
+        let a = size(t / 8 % 12);
+        let sum = a.wrapping_add(size(number(y, 12)));
+        let some = number(next(y), 70);
+        let (rows, columns, n, kinds) = match self {
+            Drawn::Any => (some, sum, sum, 6),
+            Drawn::Square => (a, a, a, 3),
+            Drawn::Packets => (some, sum, a, 6),
+        };
+        Case {
+            rows,
+            columns,
+            n,
+            k: t % 8 + 1,
+            kind: Kind::numbered(number(next(next(y)), kinds)),
+            seed,
+        }
+    }
 }
 
 // Whether row i has a one in column c, where the bits before it are drawn. Payloads are sums of one image's blocks.
-fn chosen(m: &[u64], wide: usize, s: Case, i: usize, c: usize, x: u64) -> bool {
+fn chosen<const N: usize>(m: &Matrix<N>, s: Case, i: usize, c: usize, x: u64) -> bool {
     let n = s.n;
     if n == 0 {
         return false;
     }
     if n <= c {
-        let more = c % 3 == 0 && buffer::bit(m, wide, i, c / 2 % n);
-        return buffer::bit(m, wide, i, c % n) != more;
+        let more = c % 3 == 0 && m.bit(i, c / 2 % n);
+        return m.bit(i, c % n) != more;
     }
     let odd = number(x, 2) == 1;
-    let kind = s.kind;
-    match kind {
-        0 => odd,
-        1 => number(x, 24) == 0,
-        // a diagonal, and nothing left of it
-        2 => i == c || (i < c && odd),
-        // four rows, again and again
-        3 => (i < 4 && odd) || (4 <= i && buffer::bit(m, wide, i % 4, c)),
-        // the last rows alone
-        4 => s.rows / 8 * 7 <= i && odd,
-        // the last columns alone
-        _ => n / 8 * 7 <= c && odd,
+    match s.kind {
+        Kind::Uniform => odd,
+        Kind::Sparse => number(x, 24) == 0,
+        Kind::Diagonal => i == c || (i < c && odd),
+        Kind::Repeated => (i < 4 && odd) || (4 <= i && m.bit(i % 4, c)),
+        Kind::LastRows => s.rows / 8 * 7 <= i && odd,
+        Kind::LastColumns => n / 8 * 7 <= c && odd,
     }
 }
 
-// The matrix, over zeros, in rows of `wide` columns. In one of three the last bit of a middle row is changed: its packet may be false.
-pub(crate) fn fill(m: &mut [u64], wide: usize, s: Case) {
-    let columns = s.columns;
-    let rows = s.rows;
-    if columns == 0 || rows == 0 {
+// The matrix, over zeros. In one of three the last bit of a middle row is changed: its packet may be false.
+fn fill<const N: usize>(m: &mut Matrix<N>, s: Case) {
+    if s.columns == 0 || s.rows == 0 {
         return;
     }
-    let len = buffer::place(rows, columns, 0);
-    let mut x = s.x;
-    let mut p = 0;
-    while p < len {
-        x = next(x);
-        let i = p / columns;
-        let c = p % columns;
-        let one = chosen(m, wide, s, i, c, x);
-        buffer::toggle(m, wide, i, c, one);
-        p += 1;
+    let mut x = s.seed;
+    for i in 0..s.rows {
+        for c in 0..s.columns {
+            x = next(x);
+            if chosen(m, s, i, c, x) {
+                m.toggle(i, c);
+            }
+        }
     }
-    buffer::toggle(m, wide, rows / 2, columns - 1, number(s.x, 3) == 0);
+    if number(s.seed, 3) == 0 {
+        m.toggle(s.rows / 2, s.columns - 1);
+    }
 }
 
-// the columns of the matrix with an identity on its right
-pub(crate) fn wide(s: Case) -> usize {
-    buffer::place(1, s.columns, s.rows)
+// the matrix, or the packets
+pub(crate) fn matrix<const N: usize>(s: Case) -> Matrix<N> {
+    let mut m = Matrix::over(0, s.rows, s.columns);
+    fill(&mut m, s);
+    m
 }
 
-// the two beside each other, by the plain reduction
-pub(crate) fn beside(m: &mut [u64], s: Case) {
-    let rows = s.rows;
-    let columns = s.columns;
-    let wide = wide(s);
-    fill(m, wide, s);
-    let mut i = 0;
-    while i < rows {
-        buffer::toggle(m, wide, i, num::wrapping_add_usize(columns, i), true);
-        i += 1;
+// the matrix beside an identity, by the plain reduction
+pub(crate) fn beside<const N: usize>(s: Case) -> Matrix<N> {
+    let mut m = Matrix::over(0, s.rows, s.columns.wrapping_add(s.rows));
+    fill(&mut m, s);
+    for i in 0..s.rows {
+        m.toggle(i, s.columns.wrapping_add(i));
     }
-    plain::reduce(m, wide, rows);
+    plain::reduce(&mut m);
+    m
 }

@@ -1,83 +1,58 @@
 // What an answer is held to.
-use super::draw::Case;
-use super::{buffer, plain};
+use super::buffer::{self, Matrix};
+use super::plain;
 use matrix::Answer;
-use std::num;
 
-fn wide(x: u16) -> usize {
-    x as usize
-}
-
-// the additions of a plain reduced matrix of that rank, if the pivots are its own; or LAST
-fn additions(pivots: &[u16; 512], m: &[u64], columns: usize, rank: usize, k: usize) -> usize {
-    if k == 0 {
-        return buffer::LAST;
-    }
-    let mut sum = 0;
+// the additions of a plain reduced matrix of that rank, if the pivots are its own
+fn additions<const N: usize>(
+    pivots: &[u16; 512],
+    m: &Matrix<N>,
+    rank: usize,
+    k: usize,
+) -> Option<usize> {
+    let (columns, unused) = pivots.split_at_checked(rank)?;
+    let mut sum = 0usize;
     let mut weight = 0;
-    let mut window = columns;
-    let mut i = 0;
-    while i < 512 {
-        let c = if i < rank {
-            plain::lead(m, columns, i, 0, columns)
-        } else {
-            65535
-        };
-        if wide(pivots[i]) != c {
-            return buffer::LAST;
+    let mut window = None;
+    for (i, &pivot) in columns.iter().enumerate() {
+        let c = plain::lead(m, i, 0..m.columns)?;
+        if usize::from(pivot) != c {
+            return None;
         }
         // a window with r pivots costs 1 + 2 + .. + 2^(r - 1)
-        let more = if c / k == window { weight << 1 } else { 1 };
-        weight = if i < rank { more } else { 0 };
-        window = c / k;
-        sum = num::wrapping_add_usize(sum, weight);
-        i += 1;
+        let here = c.checked_div(k);
+        weight = if here == window { weight << 1 } else { 1 };
+        window = here;
+        sum = sum.wrapping_add(weight);
     }
-    sum
+    unused.iter().all(|&pivot| pivot == 65535).then_some(sum)
 }
 
-// whether the answer is that number, with the pivots and additions of a plain reduced matrix of that rank, and so many known blocks
-pub(crate) fn told(a: Answer, number: u8, m: &[u64], s: Case, rank: usize, known: usize) -> bool {
-    let outcome = a.outcome;
-    let pivots = a.pivots;
-    let sum = additions(&pivots, m, s.columns, rank, s.k);
-    outcome.number() == number && a.rank == rank && a.known == known && a.additions == sum
+// whether that is the answer for a plain reduced matrix of that rank, with so many known blocks
+pub(crate) fn told<const N: usize>(
+    a: &Answer,
+    m: &Matrix<N>,
+    k: usize,
+    rank: usize,
+    known: usize,
+) -> bool {
+    a.rank == rank && a.known == known && additions(&a.pivots, m, rank, k) == Some(a.additions)
 }
 
 // whether row j of s is row i of m from column c on, with clean padding
-pub(crate) fn holds(s: &[u64], j: usize, m: &[u64], columns: usize, i: usize, c: usize) -> bool {
-    let width = if c < columns { columns - c } else { 0 };
-    let len = buffer::place(buffer::words(1, width), 64, 0);
-    let mut b = 0;
-    while b < len {
-        let one = b < width && buffer::bit(m, columns, i, num::wrapping_add_usize(c, b));
-        if buffer::bit(s, width, j, b) != one {
-            return false;
-        }
-        b += 1;
-    }
-    true
+pub(crate) fn holds<const N: usize>(
+    s: &Matrix<N>,
+    j: usize,
+    m: &Matrix<N>,
+    i: usize,
+    c: usize,
+) -> bool {
+    let bits = buffer::words(1, s.columns).saturating_mul(64);
+    (0..bits).all(|b| s.bit(j, b) == (b < s.columns && m.bit(i, c.wrapping_add(b))))
 }
 
 // column c of the sum of those rows of m that row i of s names
-fn summed(s: &[u64], i: usize, m: &[u64], columns: usize, rows: usize, c: usize) -> bool {
-    let mut sum = false;
-    let mut j = 0;
-    while j < rows {
-        sum = sum != (buffer::bit(s, rows, i, j) && buffer::bit(m, columns, j, c));
-        j += 1;
-    }
-    sum
-}
-
-// the first column with a one in that sum, from that one on; or columns
-pub(crate) fn left(s: &[u64], i: usize, m: &[u64], columns: usize, rows: usize, a: usize) -> usize {
-    let mut c = a;
-    while c < columns {
-        if summed(s, i, m, columns, rows, c) {
-            return c;
-        }
-        c += 1;
-    }
-    columns
+pub(crate) fn summed<const N: usize>(s: &Matrix<N>, i: usize, m: &Matrix<N>, c: usize) -> bool {
+    let named = (0..m.rows).filter(|&j| s.bit(i, j) && m.bit(j, c));
+    named.count() % 2 == 1
 }

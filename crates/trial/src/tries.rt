@@ -1,144 +1,123 @@
 // The calls on drawn matrices and lists of packets, in a room with more words than needed.
-use super::buffer::{ONES, ROOM, WORDS};
+use super::buffer::{self, Matrix, ONES, ROOM, WORDS};
 use super::draw::Case;
-use super::{buffer, calls, draw, judge, plain};
+use super::{calls, draw, judge, plain};
 use matrix::Answer;
+use packets::Verdict;
 
 // what no call writes as a mark
 const STALE: u8 = 170;
 
-// the matrix by the plain reduction, and its rank
-fn foreseen(copy: &mut [u64], s: Case) -> usize {
-    draw::fill(copy, s.columns, s);
-    plain::reduce(copy, s.columns, s.rows)
-}
-
-// whether the matrix is as foreseen, and the room zero as far as it is needed
-fn left(m: &[u64], copy: &[u64], room: &[u64], s: Case) -> bool {
-    buffer::same(m, copy) && buffer::cleared(room, 0, s.k, s.columns)
-}
-
 pub(crate) fn reduced(s: Case) -> bool {
-    let mut m = [0u64; WORDS];
-    let mut copy = [0u64; WORDS];
+    let mut m = draw::matrix::<WORDS>(s);
+    let mut foreseen = m;
     let mut room = [ONES; ROOM];
-    draw::fill(&mut m, s.columns, s);
-    let rank = foreseen(&mut copy, s);
-    let a = calls::reduce(&mut m, s, &mut room);
-    left(&m, &copy, &room, s) & judge::told(a, 0, &copy, s, rank, 0)
+    let rank = plain::reduce(&mut foreseen);
+    let told = calls::reduce(&mut m, s.k, &mut room);
+    m == foreseen
+        && buffer::is_cleared(&room, 0, s.k, s.columns)
+        && told.is_ok_and(|a| judge::told(&a, &foreseen, s.k, rank, 0))
 }
 
-// whether the result is the right half of the reduced matrix beside an identity, and times m is the identity
-fn undone(res: &[u64], m: &[u64], beside: &[u64], n: usize) -> bool {
-    let wide = buffer::place(n, 2, 0);
-    let mut i = 0;
-    while i < n {
-        let first = judge::left(res, i, m, n, n, 0);
-        let second = judge::left(res, i, m, n, n, i + 1);
-        if first != i || second != n || !judge::holds(res, i, beside, wide, i, n) {
-            return false;
-        }
-        i += 1;
-    }
-    true
-}
-
-// whether number and result are right, by the plain reduced matrix beside an identity
-fn fitting(number: u8, res: &[u64], m: &[u64], beside: &[u64], s: Case) -> bool {
-    if plain::free_row(beside, draw::wide(s), s.rows, s.rows) < s.rows {
-        return number == 9 && buffer::zeroed(res, 0);
-    }
-    number == 0 && undone(res, m, beside, s.rows)
+// whether the inverse is the right half of the reduced matrix beside an identity, and times m is the identity
+fn undone(inverse: &Matrix<WORDS>, m: &Matrix<WORDS>, beside: &Matrix<WORDS>) -> bool {
+    let n = m.rows;
+    (0..n).all(|i| {
+        judge::holds(inverse, i, beside, i, n)
+            && (0..n).all(|c| judge::summed(inverse, i, m, c) == (i == c))
+    })
 }
 
 pub(crate) fn inverted(s: Case) -> bool {
-    let mut m = [0u64; WORDS];
-    let mut beside = [0u64; WORDS];
-    let mut result = [ONES; WORDS];
+    let m = draw::matrix(s);
+    let beside = draw::beside(s);
+    let mut inverse = Matrix::over(ONES, s.rows, s.columns);
     let mut room = [ONES; ROOM];
-    draw::fill(&mut m, s.columns, s);
-    draw::beside(&mut beside, s);
-    let number = calls::invert(&mut m, s, &mut result, &mut room);
-    let clear = buffer::cleared(&room, s.rows, s.k, draw::wide(s));
-    clear & fitting(number, &result, &m, &beside, s)
-}
-
-fn mark(s: &[u8], i: usize) -> u8 {
-    if i < s.len() { s[i] } else { STALE }
-}
-
-// how many of the first n blocks have that mark
-fn marked(marks: &[u8], n: usize, v: u8) -> usize {
-    let mut sum = 0;
-    let mut j = 0;
-    while j < n {
-        sum = std::num::wrapping_add_usize(sum, if mark(marks, j) == v { 1 } else { 0 });
-        j += 1;
-    }
-    sum
+    let told = calls::invert(&m, s.k, &mut inverse, &mut room);
+    let right = if plain::free_row(&beside, s.rows, s.rows).is_some() {
+        told == Err(9) && inverse.is_untouched()
+    } else {
+        told == Ok(()) && undone(&inverse, &m, &beside)
+    };
+    right && buffer::is_cleared(&room, s.rows, s.k, beside.columns)
 }
 
 // whether marks and image are what the plain reduced packets say; row i has the next pivot, and the row after the last one is zero
-fn shown(m: &[u64], s: Case, rank: usize, image: &[u64], marks: &[u8]) -> bool {
-    let n = s.n;
+fn shown(m: &Matrix<WORDS>, rank: usize, image: &Matrix<WORDS>, marks: &[u8]) -> bool {
+    let n = image.rows;
     let mut i = 0;
-    let mut j = 0;
-    while j < n {
-        let here = plain::lead(m, s.columns, i, 0, n) == j;
-        let known = here && plain::lead(m, s.columns, i, j + 1, n) == n;
+    for (j, &mark) in marks.iter().enumerate() {
+        let here = plain::lead(m, i, 0..n) == Some(j);
+        let known = here && plain::lead(m, i, j + 1..n).is_none();
         let row = if known { i } else { rank };
-        let one = if known { 1 } else { 0 };
-        if mark(marks, j) != one || !judge::holds(image, j, m, s.columns, row, n) {
+        if mark != u8::from(known) || !judge::holds(image, j, m, row, n) {
             return false;
         }
-        i = std::num::wrapping_add_usize(i, if here { 1 } else { 0 });
-        j += 1;
+        if here {
+            i += 1;
+        }
     }
     true
 }
 
 // whether answer, marks and image are right, by the plain reduced packets
-fn settled(a: Answer, image: &[u64], marks: &[u8], m: &[u64], rank: usize, s: Case) -> bool {
-    if plain::free_row(m, s.columns, rank, s.n) < rank {
-        let kept = buffer::zeroed(image, 0) && marked(marks, s.n, STALE) == s.n;
-        return kept && judge::told(a, 10, m, s, 0, 0);
+fn settled(
+    told: Result<Answer, u8>,
+    image: &Matrix<WORDS>,
+    marks: &[u8],
+    m: &Matrix<WORDS>,
+    rank: usize,
+    k: usize,
+) -> bool {
+    if plain::free_row(m, rank, image.rows).is_some() {
+        return matches!(told, Err(10))
+            && image.is_untouched()
+            && marks.iter().all(|&mark| mark == STALE);
     }
-    shown(m, s, rank, image, marks) && judge::told(a, 0, m, s, rank, marked(marks, s.n, 1))
+    let known = marks.iter().filter(|&&mark| mark == 1).count();
+    shown(m, rank, image, marks) && told.is_ok_and(|a| judge::told(&a, m, k, rank, known))
 }
 
 pub(crate) fn solved(s: Case) -> bool {
-    let mut m = [0u64; WORDS];
-    let mut copy = [0u64; WORDS];
-    let mut image = [ONES; WORDS];
-    let mut marks = [STALE; WORDS];
+    let mut m = draw::matrix(s);
+    let mut foreseen = m;
+    let mut image = Matrix::over(ONES, s.n, s.columns.saturating_sub(s.n));
+    let mut stale = [STALE; WORDS];
     let mut room = [ONES; ROOM];
-    draw::fill(&mut m, s.columns, s);
-    let rank = foreseen(&mut copy, s);
-    let a = calls::solve(&mut m, s, &mut image, &mut marks, &mut room);
-    left(&m, &copy, &room, s) & settled(a, &image, &marks, &copy, rank, s)
+    let rank = plain::reduce(&mut foreseen);
+    let marks = buffer::first(&mut stale, s.n);
+    let told = calls::solve(&mut m, s.k, &mut image, marks, &mut room);
+    m == foreseen
+        && buffer::is_cleared(&room, 0, s.k, s.columns)
+        && settled(told, &image, marks, &foreseen, rank, s.k)
 }
 
 // whether verdict and names are right, by the plain reduced packets beside an identity
-fn justly(told: u8, names: &[u64], m: &[u64], beside: &[u64], s: Case) -> bool {
-    let wide = draw::wide(s);
-    let i = plain::free_row(beside, wide, s.rows, s.n);
-    if i == s.rows || plain::lead(beside, wide, i, s.n, s.columns) == s.columns {
-        return told == 0 && buffer::zeroed(names, 0);
+fn justly(
+    told: Result<Verdict, u8>,
+    names: &Matrix<WORDS>,
+    m: &Matrix<WORDS>,
+    beside: &Matrix<WORDS>,
+    n: usize,
+) -> bool {
+    let free = plain::free_row(beside, m.rows, n);
+    match free.filter(|&i| plain::lead(beside, i, n..m.columns).is_some()) {
+        None => told == Ok(Verdict::None) && names.is_untouched(),
+        // the sum of the named packets begins in the payload
+        Some(i) => {
+            told == Ok(Verdict::Named)
+                && judge::holds(names, 0, beside, i, m.columns)
+                && (0..n).all(|c| !judge::summed(names, 0, m, c))
+                && (n..m.columns).any(|c| judge::summed(names, 0, m, c))
+        }
     }
-    // the sum of the named packets begins in the payload
-    let c = judge::left(names, 0, m, s.columns, s.rows, 0);
-    let right = judge::holds(names, 0, beside, wide, i, s.columns);
-    told == 255 && right && s.n <= c && c < s.columns
 }
 
 pub(crate) fn named(s: Case) -> bool {
-    let mut m = [0u64; WORDS];
-    let mut beside = [0u64; WORDS];
-    let mut names = [ONES; 4];
+    let m = draw::matrix(s);
+    let beside = draw::beside(s);
+    let mut names = Matrix::over(ONES, 1, s.rows);
     let mut room = [ONES; ROOM];
-    draw::fill(&mut m, s.columns, s);
-    draw::beside(&mut beside, s);
-    let told = calls::name(&mut m, s, &mut names, &mut room);
-    let clear = buffer::cleared(&room, s.rows, s.k, draw::wide(s));
-    clear & justly(told, &names, &m, &beside, s)
+    let told = calls::name(&m, s.n, s.k, &mut names, &mut room);
+    buffer::is_cleared(&room, s.rows, s.k, beside.columns) && justly(told, &names, &m, &beside, s.n)
 }

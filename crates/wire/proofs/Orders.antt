@@ -86,11 +86,11 @@ words_at_lem kind q (x ∷ ws) pre rest f e =
 
 -- ---- a one past the first s columns of a word
 
-order_two : (kind x : ℕ) → kind ≡ 2 → order kind x ≡ reversed 64 x
+pub order_two : (kind x : ℕ) → kind ≡ 2 → order kind x ≡ reversed 64 x
 unfolding order
 order_two kind x e = ap (λ (t : Bool). cond t (reversed 64 x) x) (eq-eqb kind 2 e)
 
-order_one : (kind x : ℕ) → (kind ≡ 2 → ⊥) → order kind x ≡ x
+pub order_one : (kind x : ℕ) → (kind ≡ 2 → ⊥) → order kind x ≡ x
 unfolding order
 order_one kind x ne = ap (λ (t : Bool). cond t (reversed 64 x) x) (ne_eqb kind 2 ne)
 

@@ -1,12 +1,15 @@
 -- A number written to words: its w lowest words, and each word as the 64 columns from its place on.
-use mathlib.Core.Path.{◌≡◌, sym, ap, ap₂, ◌∙◌, subst}
+use mathlib.Core.Path.{◌≡◌, refl, sym, ap, ap₂, ◌∙◌, subst}
 use mathlib.Core.List.{List, [], ◌∷◌}
 use Prim.Native.Nat.{ℕ, zero, suc, ◌+◌, ◌-◌, ◌*◌, ◌/◌, ◌%◌, ◌^◌, ◌≤◌, ◌<◌}
 use native.Mathlib.Nat.{mul-zero, mul-mod_left, add-zero, div-one, zero-div}
 use native.Mathlib.Omega.{arith}
 use lib.Bits.{bit_or, or_shifted_r, xor_mod, xor_shr}
-use lib.ListN.{length, get_or}
+use lib.ListN.{length, get_or, take}
+use borrow.Rule.Slice.PartMut.{put_mid}
+use lib.Seq.{paste, ext_get_or, length-take-le, get_or-take}
 use lib.Pow.{low, high, field, mod-pow-add, mod-mod-pow, shl-shr, shr_lt, shr-shr}
+use Rattle.std.proofs.lemmas.Slice.{put_mid-paste}
 use Rattle.gf2.specs.Rows.{◌⊕◌}
 use Rattle.words.proofs.Digits.{length_digits, fit_digits, number_digits}
 use Rattle.words.specs.Words.{Fit, value, first_words, window_bits}
@@ -24,6 +27,15 @@ get_or_first (suc w) v zero h = sym (ap (λ (x : ℕ). x % 2 ^ 64) (ap (λ (e : 
 get_or_first (suc w) v (suc l) h =
     let e : 64 + 64 * l ≡ 64 * suc l = omega arith in
     get_or_first w (v / 2 ^ 64) l (omega arith) ∙ ap (λ (x : ℕ). x % 2 ^ 64) (shr-shr v 64 (64 * l) ∙ ap (λ (k : ℕ). v / 2 ^ k) e)
+
+-- and that fixes the words
+pub first_is : (w v : ℕ) (ws : List ℕ) → length ws ≡ w → ((l : ℕ) → l < w → get_or ws l 0 ≡ window_bits (64 * l) 64 v) → ws ≡ first_words w v
+first_is w v ws e h =
+    ext_get_or 0 ws (first_words w v) (e ∙ sym (length_first w v)) (λ l k. let k' : l < w = omega arith in h l k' ∙ sym (get_or_first w v l k'))
+
+-- a number's words written to the k words from a on
+pub put_first : (a k w len v : ℕ) (d ws : List ℕ) → ws ≡ first_words len v → len ≡ w → k ≡ w → put_mid a k d ws ≡ paste d a (first_words w v) w
+put_first a k w len v d ws e l h = put_mid-paste a k d ws (first_words w v) w (e ∙ ap (λ (n : ℕ). first_words n v) l) (sym h) (sym (length_first w v))
 
 -- a number of no more words is held whole
 pub value_first : (w v : ℕ) → v < 2 ^ (64 * w) → value (first_words w v) ≡ v
@@ -56,6 +68,13 @@ value_word (x ∷ ws) (suc l) f =
     ∙ ap (window_bits (64 * l) 64) (sym (high (value ws) 64 (f 0)))
     ∙ window_shift 64 (64 * l) (value (x ∷ ws))
     ∙ ap (λ (k : ℕ). window_bits k 64 (value (x ∷ ws))) e
+
+-- so words are those of their number; and so are the first of them
+pub words_first : (ws : List ℕ) → Fit ws → ws ≡ first_words (length ws) (value ws)
+words_first ws f = first_is (length ws) (value ws) ws refl (λ l h. value_word ws l f)
+
+pub take_first : (v : ℕ) (ws : List ℕ) → Fit ws → v ≤ length ws → take v ws ≡ first_words v (value ws)
+take_first v ws f h = first_is v (value ws) (take v ws) (length-take-le v ws h) (λ l k. get_or-take v ws l 0 k ∙ value_word ws l f)
 
 module _ (ws : List ℕ) (c : ℕ) (f : Fit ws) where
   -- the 64 columns from column c on are a word, where c is its first column

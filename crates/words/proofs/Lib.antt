@@ -1,4 +1,5 @@
 -- The laws of words and rows.
+pub mod Ranges
 pub mod Digits
 pub mod Parts
 pub mod Value

@@ -13,6 +13,7 @@ use lib.ListN.{length}
 use lib.Pow.{pow_pos}
 use Rattle.gf2.specs.Rows.{row}
 use Rattle.words.specs.Words.{words_of, rows_of, Clean, narrow, holds_rows}
+use Rattle.words.proofs.Ranges.{EachBelow}
 
 -- ---- row by row
 
@@ -34,6 +35,11 @@ narrow_not columns (v ∷ L) zero l h = rw (le-ltb v (2 ^ columns) (go (dec_lt v
     go (yes k) = absurd (h k)
     go (no k) = omega arith
 narrow_not columns (v ∷ L) (suc i) l h = rw (← (narrow_not columns L i (omega arith) h)) (and_false (ltb v (2 ^ columns)))
+
+-- by a test of each row
+pub narrow_by : (columns n : ℕ) (L : List ℕ) (b : Bool) → length L ≡ n → EachBelow n b (λ i. row L i < 2 ^ columns) → b ≡ narrow columns L
+narrow_by columns n L true e h = narrow_all columns L (λ i l. h i (omega arith))
+narrow_by columns n L false e h = narrow_not columns L h.0 (omega (arith, h.1)) h.2
 
 -- what narrow means
 pub narrow_row : (columns : ℕ) (L : List ℕ) → narrow columns L ≡ true → (i : ℕ) → row L i < 2 ^ columns

@@ -8,11 +8,7 @@ ghost use Rattle.words.specs.Words.{words_of, rows_of, narrow, holds_rows};
 pub fn per_row(columns: usize) -> usize
     ensures { result ≡ words_of columns }
 {
-    if columns % 64 == 0 {
-        columns / 64
-    } else {
-        columns / 64 + 1
-    }
+    columns.div_ceil(64)
 }
 
 // the columns in the last word of a row, 0 where it is full
@@ -29,13 +25,10 @@ pub fn word(m: &[u64], at: usize, w: usize, l: usize) -> u64
     if w <= l {
         return 0;
     }
-    if m.len() <= at {
-        return 0;
+    match m.get(at..) {
+        Some(row) => row.get(l).copied().unwrap_or(0),
+        None => 0,
     }
-    if m.len() - at <= l {
-        return 0;
-    }
-    m[at + l]
 }
 
 // whether no row has a one past its last column
@@ -44,17 +37,7 @@ fn is_clean(m: &[u64], w: usize, rows: usize, columns: usize) -> bool
     ensures { result ≡ narrow columns (rows_of w rows m.now) }
 {
     let s = odd_bits(columns);
-    if s == 0 {
-        return true;
-    }
-    let mut i = 0;
-    while i < rows {
-        if m[i * w + (w - 1)] >> s != 0 {
-            return false;
-        }
-        i += 1;
-    }
-    true
+    s == 0 || (0..rows).all(|i| m[i * w + (w - 1)] >> s == 0)
 }
 
 // whether the buffer starts with that many rows, and none of them has a one past its last column

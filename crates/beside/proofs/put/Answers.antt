@@ -1,39 +1,30 @@
--- After l turns the first l words are those of the sum: word l of a sum is the sum of the words l.
-use mathlib.Core.Path.{◌≡◌, sym, ap, ap₂, ◌∙◌}
+-- Word l of a sum is the sum of the words l: window_sum.
+use mathlib.Core.Path.{◌≡◌, ap₂, ◌∙◌}
+use mathlib.Core.Logic.{◌≢◌}
 use Prim.Native.Nat.{ℕ, ◌*◌, ◌^◌, ◌<◌}
 use native.Mathlib.Omega.{arith}
-use lib.Seq.{paste, paste-zero}
-use Rattle.gf2.specs.Rows.{◌⊕◌, part}
-use Rattle.words.specs.Words.{value, first_words}
-use Rattle.words.proofs.Parts.{paste_more}
-use Rattle.words.proofs.Value.{fits_fit, part_fits}
-use Rattle.words.proofs.First.{length_first, get_or_first, value_word, window_sum}
+use borrow.Author.Count.{below_more}
 use borrow.Author.Rules.{rules}
+use lib.ListN.{length, get_or}
+use lib.Seq.{get_or-set_same, get_or-set_other}
+use Rattle.gf2.specs.Rows.{◌⊕◌}
+use Rattle.words.specs.Words.{value}
+use Rattle.words.proofs.First.{first_is, value_word, window_sum}
+use Rattle.words.proofs.Value.{fits_fit}
 use Rattle.beside.proofs.put.Goals as goal
-
-pub loop-l-init : goal.loop-l-init
-loop-l-init c =
-    let g = c.args in
-    (paste-zero g.room.now g.to (first_words g.v (value (part g.at g.w g.m.now) ⊕ 2 ^ g.c)), search rules, search rules)
 
 pub loop-l-preserved : goal.loop-l-preserved
 loop-l-preserved c =
     let g = c.args in
-    let m = g.m.now in
-    let u = value (part g.at g.w m) in
-    let l = c.loop-l.l in
-    let h : l < g.v = search rules in (
-      paste_more g.room.now c.loop-l.room g.to (first_words g.v (u ⊕ 2 ^ g.c)) l (c.word.result ⊕ c.unit_word.result) c.loop-l.invariant.0 (search rules)
-          (omega (arith, length_first g.v (u ⊕ 2 ^ g.c)))
-          (ap₂ (λ (x y : ℕ). x ⊕ y) (c.word.ensures ∙ value_word (part g.at g.w m) l (part_fits m g.at g.w (fits_fit m c.type_inv.m)))
-          c.unit_word.ensures
-          ∙ window_sum (64 * l) u (2 ^ g.c) ∙ sym (get_or_first g.v (u ⊕ 2 ^ g.c) l h)),
-      search rules,
-      search rules,
-    )
+    let l : ℕ = c.loop-l.l in
+    let old : c.unwrap_or.result ≡ get_or g.row.now l 0 = search rules in
+    below_more _ _
+    (λ k h. let ne : k ≢ l = omega arith in rw get_or-set_other (c.loop-l.invariant k h))
+    (let lt : l < length c.loop-l.to = omega arith in
+    rw get_or-set_same (ap₂ (λ (x y : ℕ). x ⊕ y) (old ∙ value_word g.row.now l (fits_fit g.row.now c.type_inv.row)) c.unit_word.ensures
+    ∙ window_sum (64 * l) (value g.row.now) (2 ^ g.c)))
 
 pub returns : goal.returns
 returns c =
     let g = c.args in
-    let e : c.loop-l.l ≡ g.v = search rules in
-    c.loop-l.invariant.0 ∙ ap (paste g.room.now g.to (first_words g.v (value (part g.at g.w g.m.now) ⊕ 2 ^ g.c))) e
+    first_is (length g.to.now) (value g.row.now ⊕ 2 ^ g.c) c.loop-l.to (search rules) (λ l h. c.loop-l.invariant l (omega arith))

@@ -1,12 +1,13 @@
 -- A word, a number and the end of the line.
-use mathlib.Core.Path.{subst}
-use Prim.Native.Nat.{ℕ}
+use Rattle.std.proofs.Common.{ℕ, ◌∙◌, subst}
 use Rattle.text.specs.Text.{ascii, decimal}
-use Rattle.text.specs.Put.{Put}
-use Rattle.text.proofs.Putting.{put_then}
+use Rattle.text.specs.Put.{Written}
+use Rattle.text.proofs.Putting.{written_then}
 use Rattle.desk.specs.Desk.{refused_text}
 use Rattle.desk.proofs.refused.Goals as goal
 
 pub returns : goal.returns
 unfolding refused_text ascii
-returns c = put_then (put_then c.bytes-q.ensures (subst (λ (n : ℕ). Put c.bytes-q.result (decimal n) c.bytes-q.new.out c.decimal-s.result c.decimal-s.new.out) c.number.ensures c.decimal-s.ensures)) c.bytes.ensures
+returns c =
+    let number = subst (λ (n : ℕ). Written (decimal n) c.bytes.new.self c.decimal.new.self) (c.from-2.ensures ∙ c.from.ensures) c.decimal.ensures in
+    written_then (written_then c.bytes.ensures number) c.bytes-2.ensures

@@ -1,101 +1,48 @@
 -- Each turn does one window; after the last all columns are done.
-use mathlib.Core.Path.{◌≡◌, refl, sym, ◌∙◌}
-use Prim.Native.Nat.{ℕ, ◌≤◌}
+use mathlib.Core.Path.{◌≡◌, refl, ◌∙◌}
 use native.Mathlib.Omega.{arith}
-use lib.ListN.{length-replicate}
+use borrow.Author.Rules.{rules}
 use Rattle.gf2.specs.Additions.{windows}
 use Rattle.words.proofs.Rows.{length_rows}
 use Rattle.engine.proofs.Fitting.{table_fits, rows_fit}
 use Rattle.engine.proofs.Windows.{passed_start, passed_next, finished, table_room, steps_small, few_additions, starts_inside, table_rest}
 use Rattle.engine.proofs.all.Goals as goal
 
-pub window_count-end-requires : goal.window_count-end-requires
-window_count-end-requires c = let f = c.requires.1 in (f.table.window.least, f.table.window.most, f.shape.sized.wide)
-
 pub loop-j-init : goal.loop-j-init
-loop-j-init c =
-    let p = c.requires in
-    let bytes = length-replicate {A = ℕ} 1024 0 in
-    (passed_start p.1.shape.listed p.2, omega arith, omega arith, refl, refl, refl, refl, bytes, bytes, refl)
+loop-j-init c = (passed_start c.requires.1.shape.listed c.requires.2, omega arith, refl, refl)
 
-pub overflow_mul-c : goal.overflow_mul-c
-overflow_mul-c c = omega (arith, starts_inside c.requires.1.table.window.least c.window_count-end.ensures c.loop-j-test.true, c.requires.1.shape.sized.wide)
-
-pub width-kw-requires : goal.width-kw-requires
-width-kw-requires c = (c.requires.1.table.window.least, starts_inside c.requires.1.table.window.least c.window_count-end.ensures c.loop-j-test.true)
-
-pub slice_bounds-window-end : goal.slice_bounds-window-end
-slice_bounds-window-end c = sym c.loop-j.invariant.7
-
-pub slice_bounds-window-end-in-loop-j : goal.slice_bounds-window-end-in-loop-j
-slice_bounds-window-end-in-loop-j c = sym c.loop-j.invariant.8
-
-pub window-p-requires : goal.window-p-requires
-window-p-requires c =
+pub reduce_window-found-requires : goal.reduce_window-found-requires
+reduce_window-found-requires c =
     let g = c.args in
     let e = c.requires.0 in
     let f = c.requires.1 in
-    let v = c.loop-j.invariant in
-    let h = c.width-kw.ensures in
-    let few = f.shape.sized.few in
-    let most = f.table.window.most in
-    let narrow : g.w ≤ 16 = omega (arith, e, f.shape.sized.wide) in (
-      record { fits = omega (arith, rows_fit e f, v.5); narrow = narrow; few = omega (arith, few) },
-      omega (arith, h.2, e),
-      h.0,
-      omega (arith, h.1, most),
-      omega (arith, table_fits e f, v.6, table_room c.width-kw.result g.k g.w h.1),
-      omega (arith, v.7, few),
-      omega (arith, v.8, few),
-      v.0.stage,
-      c.book-codes.ensures,
-    )
+    (omega (arith, rows_fit e f), omega (arith, table_fits e f, table_room c.width.result g.k g.w c.width.ensures.1), search rules, search rules, c.loop-j.invariant.0.stage)
 
 pub overflow_add-additions : goal.overflow_add-additions
 overflow_add-additions c =
-    let few = steps_small c.loop-j.j c.args.k c.args.columns c.requires.1.table.window.least (starts_inside c.requires.1.table.window.least c.window_count-end.ensures c.loop-j-test.true) in
-    omega (arith, c.loop-j.invariant.1, few_additions c.window-p.ensures.3 c.window-p.ensures.0.few c.width-kw.ensures.1 c.requires.1.table.window.most, few, c.requires.1.shape.sized.wide)
-
-pub overflow_add-rank : goal.overflow_add-rank
-overflow_add-rank c =
-    omega (arith, c.window-p.ensures.0.stage.room, c.requires.1.shape.sized.few)
-
-pub loop-j-smaller : goal.loop-j-smaller
-loop-j-smaller c = omega (arith, c.loop-j-test.true)
+    let f = c.requires.1 in
+    let p = c.reduce_window-found.ensures in
+    let least = f.table.window.least in
+    let few = steps_small c.loop-j.j c.args.k c.args.columns least (starts_inside least c.window_count-j-end.ensures c.loop-j-test.true) in
+    omega (arith, few_additions p.3 p.0.few c.width.ensures.1 f.table.window.most, few, f.shape.sized.wide)
 
 pub loop-j-preserved : goal.loop-j-preserved
 loop-j-preserved c =
     let l = c.loop-j in
     let g = c.args in
-    let f = c.window-p in
-    let h = c.width-kw.ensures in
-    let v = l.invariant in
-    let rest = table_rest c.width-kw.result g.k g.w f.new.t l.t h.1 f.ensures.2 in (
+    let f = c.reduce_window-found in
+    let h = c.width.ensures in
+    let v = l.invariant in (
       passed_next h.1 h.3 (λ i. rw c.requires.0 (c.requires.1.shape.clean i)) v.0 f.ensures.0 f.ensures.3,
-      omega (arith, v.1, few_additions c.window-p.ensures.3 c.window-p.ensures.0.few c.width-kw.ensures.1 c.requires.1.table.window.most),
-      omega (arith, c.loop-j-test.true),
-      f.ensures.1 ∙ v.3,
-      rest ∙ v.4,
-      f.auto.m ∙ v.5,
-      f.auto.t ∙ v.6,
-      f.auto.h ∙ v.7,
-      f.auto.o ∙ v.8,
-      f.auto.cols ∙ v.9,
+      omega (arith, v.1, few_additions f.ensures.3 f.ensures.0.few h.1 c.requires.1.table.window.most),
+      f.ensures.1 ∙ v.2,
+      table_rest c.width.result g.k g.w f.new.t l.t h.1 f.ensures.2 ∙ v.3,
     )
-
-pub shape_of-m : goal.shape_of-m
-shape_of-m c = c.loop-j.invariant.5
-
-pub shape_of-t : goal.shape_of-t
-shape_of-t c = c.loop-j.invariant.6
-
-pub shape_of-cols : goal.shape_of-cols
-shape_of-cols c = c.loop-j.invariant.9
 
 pub returns : goal.returns
 returns c =
     let l = c.loop-j in
     let g = c.args in
-    let e : l.j ≡ windows g.k g.columns = omega (arith, c.loop-j-test.false, l.invariant.2, c.window_count-end.ensures) in
     let size = length_rows g.w g.n in
-    (refl, finished c.requires.1.table.window.least (size l.m) (size g.m.now) (λ i. rw c.requires.0 (c.requires.1.shape.clean i)) e l.invariant.0, l.invariant.3, l.invariant.4)
+    let e : l.j ≡ windows g.k g.columns = omega (arith, c.window_count-j-end.ensures) in
+    (finished c.requires.1.table.window.least (size l.m) (size g.m.now) (λ i. rw c.requires.0 (c.requires.1.shape.clean i)) e l.invariant.0, l.invariant.2, l.invariant.3)

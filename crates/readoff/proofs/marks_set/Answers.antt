@@ -1,13 +1,12 @@
--- The sum so far, and the marks to come, are all marks.
-use Rattle.readoff.proofs.Saying.{marked_turn, marked_end}
+-- A mark that is set counts one.
+use mathlib.Core.Path.{◌≡◌, ◌∙◌}
 use borrow.Author.Rules.{rules}
-use native.Mathlib.Omega.{arith}
+use lib.Dec.{eqb}
+use Rattle.std.specs.Prelude.{count_by}
+use Rattle.readoff.proofs.Saying.{marked_count}
 use Rattle.readoff.proofs.marks_set.Goals as goal
 
-pub loop-j-preserved : goal.loop-j-preserved
-loop-j-preserved c =
-    let l = c.loop-j in
-    (marked_turn c.args.marks.now l.sum l.j l.invariant.0 (search rules), omega (arith, c.requires l.j, l.invariant.1), search rules)
-
 pub returns : goal.returns
-returns c = let g = c.args in marked_end g.marks.now c.loop-j.sum c.loop-j.j c.loop-j.invariant.0 (search rules)
+returns c =
+    let counted : c.count.result ≡ count_by (λ x. eqb x 1) c.args.marks.now = search rules in
+    counted ∙ marked_count c.args.marks.now c.requires

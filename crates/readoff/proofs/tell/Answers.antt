@@ -1,45 +1,50 @@
--- The row's first one and the next one tell what to store.
-use mathlib.Core.Path.{refl}
-use Prim.Native.Nat.{ℕ, ◌*◌, ◌^◌, ◌<◌}
-use lib.ListN.{set}
-use Rattle.gf2.specs.Rows.{part}
+-- The row's first one and the ones behind it tell what to store.
+use mathlib.Core.Path.{◌≡◌, refl, ◌∙◌}
+use Prim.Native.Nat.{ℕ, ◌+◌, ◌-◌, ◌*◌}
+use native.Mathlib.Omega.{arith}
+use borrow.Author.Rules.{rules}
+use lib.ListN.{length, set}
 use Rattle.words.specs.Words.{value}
 use Rattle.words.proofs.Value.{fits_fit}
-use Rattle.readoff.proofs.Place.{part_narrow}
-use Rattle.readoff.proofs.Telling.{tell_nothing, tell_unknown, tell_known}
-use borrow.Author.Rules.{rules}
+use Rattle.words.proofs.First.{put_first}
+use Rattle.readoff.proofs.Laid.{stored_words}
+use Rattle.readoff.proofs.Telling.{tell_none, tell_nothing, tell_unknown, tell_known}
 use Rattle.readoff.proofs.tell.Goals as goal
+
+pub returns-in_default : goal.returns-in_default
+returns-in_default c =
+    let g = c.args in
+    let r = c.row-row.result in
+    rw (← c.row-row.ensures)
+    (λ R s. tell_none (value g.unknown.now) (length g.marks.now) (length g.unknown.now) r R g.image.now g.marks.now s c.in_default.ensures)
 
 pub returns-then-n-j : goal.returns-then-n-j
 returns-then-n-j c =
     let g = c.args in
-    let r : ℕ = value (part (g.i * g.w) g.w g.m.now) in
-    let fit = fits_fit g.m.now c.type_inv.m in
-    let small : r < 2 ^ (64 * g.w) = part_narrow g.m.now (g.i * g.w) g.w fit (search rules) in
-    let q = c.next_one-j in
-    λ R shows. tell_nothing (value g.unknown.now) g.n g.v (64 * g.w) r q.result small q.ensures (search rules) R g.image.now g.marks.now shows
-    (search rules)
+    let r = c.row-row.result in
+    rw (← c.row-row.ensures)
+    (λ R s. tell_nothing (value g.unknown.now) (length g.marks.now) (length g.unknown.now) r R g.image.now g.marks.now s
+    c.in-Some.j c.in-Some.ensures c.if-n-j.true)
 
-pub returns-then-next_one-n : goal.returns-then-next_one-n
-returns-then-next_one-n c =
+pub returns-then-has_one : goal.returns-then-has_one
+returns-then-has_one c =
     let g = c.args in
-    let r : ℕ = value (part (g.i * g.w) g.w g.m.now) in
-    let fit = fits_fit g.m.now c.type_inv.m in
-    let small : r < 2 ^ (64 * g.w) = part_narrow g.m.now (g.i * g.w) g.w fit (search rules) in
-    let q = c.next_one-j in
-    let q₂ = c.next_one in
-    let t = c.set_unknown in
-    λ R shows. tell_unknown (value g.unknown.now) g.n g.v (64 * g.w) r q.result small q.ensures (search rules) R g.image.now g.marks.now shows
-    (search rules) q₂.result q₂.ensures t.new.image t.new.marks (search rules) (search rules) t.ensures.0 t.ensures.1
+    let r = c.row-row.result in
+    let v = length g.unknown.now in
+    let u = c.set_unknown in
+    let j = c.in-Some.j in
+    rw (← c.row-row.ensures)
+    (λ R s. tell_unknown (value g.unknown.now) (length g.marks.now) v r R g.image.now g.marks.now s j c.in-Some.ensures (search rules) u.new.image
+    u.new.marks (search rules) c.if-has_one.ensures (u.ensures.0 ∙ stored_words (j * v) g.image.now g.unknown.now (fits_fit g.unknown.now c.type_inv.unknown)) u.ensures.1)
 
 pub returns : goal.returns
 returns c =
     let g = c.args in
-    let r : ℕ = value (part (g.i * g.w) g.w g.m.now) in
-    let fit = fits_fit g.m.now c.type_inv.m in
-    let small : r < 2 ^ (64 * g.w) = part_narrow g.m.now (g.i * g.w) g.w fit (search rules) in
-    let q = c.next_one-j in
-    let q₂ = c.next_one in
-    let t = c.take_from in
-    λ R shows. tell_known (value g.unknown.now) g.n g.v (64 * g.w) r q.result small q.ensures (search rules) R g.image.now g.marks.now shows
-    (search rules) q₂.result q₂.ensures t.new.d (set g.marks.now q.result 1) (search rules) (search rules) t.ensures refl
+    let r = c.row-row.result in
+    let v = length g.unknown.now in
+    let j : ℕ = c.in-Some.j in
+    let k : j * v + v - j * v ≡ v = omega arith in
+    let e = put_first (j * v) (j * v + v - j * v) v _ _ g.image.now c.write_from.new.to c.write_from.ensures (search rules) k in
+    rw (← c.row-row.ensures)
+    (λ R s. tell_known (value g.unknown.now) (length g.marks.now) v r R g.image.now g.marks.now s j c.in-Some.ensures (search rules) _
+    (set g.marks.now j 1) (search rules) c.if-has_one.ensures e refl)

@@ -1,6 +1,7 @@
 -- The buffers are as long as the report asks for, and what is written is the report.
 use Rattle.std.proofs.Common.{rules, ℕ, ◌≤◌, length, replicate, sym, subst, length-take-le}
 use Rattle.std.proofs.lemmas.List.{length-replicate}
+use Rattle.std.proofs.lemmas.Result.{on_ok_weaker, on_err_weaker}
 use lib.Dec.{lit≤}
 use Rattle.std.specs.Io.KnownBytes.{Appends}
 use Rattle.stream.specs.Stream.{AppendsFront}
@@ -30,7 +31,9 @@ pub slice_bounds-write-end : goal.slice_bounds-write-end
 slice_bounds-write-end g c = sym (length-take-le c.whole-end.result c.whole-end.new.out (report_ends _ _ c.whole-end.new.out c.whole-end.result c.whole-end.ensures.0 c.whole-end.ensures.1))
 
 pub returns-clause-whole : goal.returns-clause-whole
-returns-clause-whole g c taken = subst (Appends _ _) (report_front _ _ c.whole-end.new.out c.whole-end.result c.whole-end.ensures.0 c.whole-end.ensures.1) (c.write.ensures.whole taken)
+returns-clause-whole g c =
+    on_ok_weaker _ (subst (Appends _ _) (report_front _ _ c.whole-end.new.out c.whole-end.result c.whole-end.ensures.0 c.whole-end.ensures.1)) c.write.ensures.whole
 
 pub returns-clause-begun : goal.returns-clause-begun
-returns-clause-begun g c broken = subst (AppendsFront _ _) (report_front _ _ c.whole-end.new.out c.whole-end.result c.whole-end.ensures.0 c.whole-end.ensures.1) (c.write.ensures.begun broken)
+returns-clause-begun g c =
+    on_err_weaker _ (subst (AppendsFront _ _) (report_front _ _ c.whole-end.new.out c.whole-end.result c.whole-end.ensures.0 c.whole-end.ensures.1)) c.write.ensures.begun

@@ -4,7 +4,11 @@ use Rattle.std.specs.Io.KnownBytes.{Consumes}
 use Rattle.stream.proofs.read.Given as goal
 
 abbrev pub invariant-loop-at : goal.invariant-loop-at
-invariant-loop-at g l = record { within : l.at ≤ l.len; whole : l.len ≡ length l.fn.buffer; same : length l.buffer ≡ length l.fn.buffer; came : Consumes (g.R.Read.remaining l.fn.stream) (g.R.Read.remaining l.stream) (take l.at l.buffer) }
+invariant-loop-at g l = record {
+  within : l.at ≤ length l.fn.buffer;
+  same : length l.buffer ≡ length l.fn.buffer;
+  came : Consumes (g.R.Read.remaining l.fn.stream) (g.R.Read.remaining l.stream) (take l.at l.buffer);
+}
 
 abbrev pub decreases-loop-at : goal.decreases-loop-at
-decreases-loop-at g l = l.len - l.at
+decreases-loop-at g l = length l.fn.buffer - l.at

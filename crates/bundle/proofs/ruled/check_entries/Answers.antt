@@ -1,27 +1,19 @@
--- The answer is that of the entries left. The measure is how many they are.
-use mathlib.Core.Path.{ap}
-use Prim.Native.Nat.{ℕ}
-use Rattle.bundle.specs.Bundle.{head_bytes, kind_rule, entries_checks}
-use Rattle.bundle.proofs.Steps.{entries_refused, entries_shape, entries_inside, entries_turn, entries_left, entries_none}
+-- The answer is that of the entries left.
+use Rattle.bundle.proofs.Steps.{entries_refused, entries_turn, entries_left, entries_none}
+use native.Mathlib.Omega.{arith}
 use borrow.Author.Rules.{rules}
 use Rattle.bundle.proofs.ruled.check_entries.Goals as goal
 
-pub loop-i-init : goal.loop-i-init
-loop-i-init c =
-    let g = c.args in
-    (ap (λ (j : ℕ). entries_checks (kind_rule g.two) j 0 (head_bytes g.n) g.b.now) (search rules), search rules, search rules)
-
-pub returns-in-Refused : goal.returns-in-Refused
-returns-in-Refused c = search entries_refused
-
-pub words_in-requires : goal.words_in-requires
-words_in-requires c = (search rules, search rules, search entries_shape)
+pub returns-in_err-at : goal.returns-in_err-at
+returns-in_err-at c =
+    let e = entries_refused _ _ _ _ _ c.loop-i.invariant.left c.loop-i-test.true c.check_entry.ensures c.in_err-at.was in
+    grind arith
 
 pub loop-i-preserved : goal.loop-i-preserved
-loop-i-preserved c = (search entries_turn, search rules, search entries_inside)
+loop-i-preserved c = let t = entries_turn _ _ _ _ _ c.loop-i.invariant.left c.loop-i-test.true c.check_entry.ensures c.in_ok-at.was in record { left = t.0; inside = t.1 }
 
 pub returns-then-at-b : goal.returns-then-at-b
 returns-then-at-b c = search (rules, entries_left)
 
 pub returns : goal.returns
-returns c = search entries_none
+returns c = search (rules, entries_none)

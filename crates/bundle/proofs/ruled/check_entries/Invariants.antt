@@ -1,4 +1,4 @@
--- The answer is that of the entries left. The measure is how many they are.
+-- The answer is that of the entries left.
 use mathlib.Core.Path.{◌≡◌}
 use Prim.Native.Nat.{◌-◌, ◌≤◌}
 use lib.ListN.{length}
@@ -6,8 +6,7 @@ use Rattle.bundle.specs.Bundle.{head_bytes, kind_rule, entries_checks}
 use Rattle.bundle.proofs.ruled.check_entries.Given as goal
 
 abbrev pub invariant-loop-i : goal.invariant-loop-i
-invariant-loop-i l =
-    (entries_checks (kind_rule l.two) l.n 0 (head_bytes l.n) l.b ≡ entries_checks (kind_rule l.two) (l.n - l.i) l.i l.at l.b) × (l.i ≤ l.n) × (l.at ≤ length l.b)
-
-abbrev pub decreases-loop-i : goal.decreases-loop-i
-decreases-loop-i l = l.n - l.i
+invariant-loop-i l = record {
+  left : entries_checks (kind_rule l.two) l.n 0 (head_bytes l.n) l.b ≡ entries_checks (kind_rule l.two) (l.n - l.i) l.i l.at l.b;
+  inside : l.at ≤ length l.b;
+}

@@ -1,12 +1,9 @@
--- Each turn gathers one byte more, which is still as it was.
-use Prim.Native.Nat.{◌-◌, ◌≤◌}
-use lib.ListN.{get_or}
+-- The bytes passed are gathered; the others are as they were.
+use mathlib.Core.Path.{◌≡◌}
+use Prim.Native.Nat.{ℕ, ◌<◌, ◌≤◌}
+use lib.ListN.{length, get_or}
 use Rattle.engine.specs.Stage.{Gathered}
-use Rattle.engine.proofs.ByteLaws.{Made}
 use Rattle.engine.proofs.bytes.gather_all.Given as goal
 
-abbrev pub invariant-loop-i : goal.invariant-loop-i
-invariant-loop-i l = Made (λ j v. Gathered l.c l.base l.r l.cols (get_or l.initial.o j 0) v) 0 l.i l.initial.o l.o × (l.i ≤ l.n)
-
-abbrev pub decreases-loop-i : goal.decreases-loop-i
-decreases-loop-i l = l.n - l.i
+abbrev pub invariant-loop-x : goal.invariant-loop-x
+invariant-loop-x l = ((i : ℕ) → i < l.x-index → Gathered l.c (length l.pivots) l.pivots (get_or l.initial.o i 0) (get_or l.o i 0)) × ((i : ℕ) → l.x-index ≤ i → get_or l.o i 0 ≡ get_or l.initial.o i 0)

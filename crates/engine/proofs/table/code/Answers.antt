@@ -1,11 +1,9 @@
--- The codebook's rule at entry t.
-use Rattle.method.proofs.Gray.{gray_lt}
-use native.Mathlib.Omega.{arith}
+-- The table is the list of the codes of 0 to 255: antt computes both.
+use mathlib.Core.Path.{◌∙◌}
+use Rattle.engine.proofs.Codebook.{book}
+use Rattle.gf2.specs.Rows.{tabulate}
 use Rattle.engine.proofs.table.code.Goals as goal
 
-pub overflow_cast-result : goal.overflow_cast-result
-overflow_cast-result c =
-    omega (arith, c.requires.1 c.args.t c.requires.0, gray_lt 8 c.args.t c.requires.0)
-
 pub returns : goal.returns
-returns c = c.requires.1 c.args.t c.requires.0
+unfolding tabulate
+returns c = c.from.ensures ∙ book c.args.t c.requires

@@ -3,13 +3,10 @@ use Rattle.engine.proofs.Sums.{Codes, Local}
 use Rattle.engine.specs.Stage.{spaced}
 use Rattle.words.specs.Words.{rows_of}
 use Rattle.gf2.specs.Rows.{row}
-use Prim.Native.Nat.{◌+◌, ◌-◌, ◌*◌, ◌^◌, ◌≤◌}
+use Prim.Native.Nat.{◌+◌, ◌*◌, ◌^◌}
 use lib.ListN.{length, drop}
 use mathlib.Core.Path.{◌≡◌}
 use Rattle.engine.proofs.table.make.Given as goal
 
 abbrev pub invariant-loop-l : goal.invariant-loop-l
-invariant-loop-l l = Codes l.l (spaced l.a l.w l.v l.r l.m) (row (rows_of l.v (2 ^ l.r) l.t)) × Local l.v l.l (spaced l.a l.w l.v l.r l.m) l.x × (drop (2 ^ l.r * l.v) l.t ≡ drop (2 ^ l.r * l.v) l.initial.t) × (length l.t ≡ length l.initial.t) × (l.additions + 1 ≡ l.l) × (l.l ≤ l.end)
-
-abbrev pub decreases-loop-l : goal.decreases-loop-l
-decreases-loop-l l = l.end - l.l
+invariant-loop-l g l = Codes l.l (spaced l.a l.w g.row.V l.r l.m) (row (rows_of g.row.V (2 ^ l.r) l.t)) × Local g.row.V l.l (spaced l.a l.w g.row.V l.r l.m) l.x × (drop (2 ^ l.r * g.row.V) l.t ≡ drop (2 ^ l.r * g.row.V) l.initial.t) × (length l.t ≡ length l.initial.t) × (l.additions + 1 ≡ l.l)

@@ -1,38 +1,19 @@
 -- The row that joins is the one that the step number names, and the sum is stored at its code.
+use mathlib.Core.List.{List}
+use mathlib.Core.Path.{ap, ap₂, ◌∙◌}
 use Prim.Native.Nat.{ℕ, ◌+◌, ◌*◌}
+use native.Mathlib.Omega.{arith}
+use lib.Seq.{paste, take_all}
 use Rattle.gf2.specs.Rows.{part}
 use Rattle.words.specs.Words.{xors}
-use lib.Seq.{paste}
-use mathlib.Core.Path.{ap, ◌∙◌}
-use native.Mathlib.Omega.{arith}
+use Rattle.engine.proofs.Sums.{row_added}
 use Rattle.engine.proofs.table.step.Goals as goal
 
-pub overflow_mul-joins : goal.overflow_mul-joins
-overflow_mul-joins c =
-    omega (arith, ap (λ (q : ℕ). q * c.args.w) c.joins.ensures, c.requires.3, c.well_formed)
-
-pub overflow_add-a : goal.overflow_add-a
-overflow_add-a c =
-    omega (arith, ap (λ (q : ℕ). q * c.args.w) c.joins.ensures, c.requires.3, c.well_formed)
-
-pub add_words-requires : goal.add_words-requires
-add_words-requires c =
-    (omega (arith, c.requires.1, c.requires.2), omega (arith, ap (λ (q : ℕ). q * c.args.w) c.joins.ensures, c.requires.3))
-
-pub overflow_mul-code : goal.overflow_mul-code
-overflow_mul-code c =
-    omega (arith, ap (λ (q : ℕ). q * c.args.v) c.code.ensures, c.requires.4, c.well_formed)
-
-pub copy_words-requires : goal.copy_words-requires
-copy_words-requires c =
-    (omega (arith, ap (λ (q : ℕ). q * c.args.v) c.code.ensures, c.requires.4), omega (arith, c.requires.2, c.add_words.auto.d, c.requires.1))
-
 pub returns : goal.returns
-returns c =
+returns g c =
     let a = c.args in
-    let j = c.joins in
-    let d = c.add_words in (
-      c.add_words.auto.d ∙ c.requires.1,
-      d.ensures ∙ ap (λ (z : ℕ). paste a.x.now 0 (xors (part 0 a.v a.x.now) (part (a.a + z * a.w) a.v a.m.now)) a.v) j.ensures,
-      c.copy_words.ensures ∙ ap (λ (g : ℕ). paste a.t.now (g * a.v) (part 0 a.v d.new.d) a.v) c.code.ensures,
+    let v : ℕ = g.row.V in
+    let x' : List ℕ = c.add_words.new.d in (
+      c.add_words.ensures ∙ row_added v a.x.now _ c.told-x ∙ ap (λ (z : ℕ). xors a.x.now (part (a.a + z * a.w) v a.m.now)) c.joins.ensures,
+      c.copy_words.ensures ∙ ap₂ (λ (z : ℕ) (y : List ℕ). paste a.t.now (z * v) y v) c.code.ensures (take_all v x' (omega arith)),
     )

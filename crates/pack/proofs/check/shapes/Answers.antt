@@ -1,22 +1,21 @@
 -- The checks of all entries are those of the entries that are left, as long as none refuses.
-use mathlib.Core.Path.{refl}
-use Rattle.pack.proofs.Turns.{shapes_turn, shapes_refused, shapes_end}
-use borrow.Author.Rules.{rules}
+use mathlib.Core.Path.{sym, ◌∙◌}
+use native.Mathlib.Omega.{arith}
+use Rattle.bundle.specs.Bundle.{kind_rule}
+use Rattle.pack.proofs.Turns.{turn_of, end_of, shapes_turn, shapes_refused, shapes_end}
 use Rattle.pack.proofs.check.shapes.Goals as goal
 
-pub loop-i-init : goal.loop-i-init
-loop-i-init c = (refl, search rules)
+pub returns-in_err-shape : goal.returns-in_err-shape
+returns-in_err-shape c =
+    let t = turn_of c.loop-kind.kind-iterator c.next.new.self c.next.result _ c.in-Some.is c.next.ensures.steps in
+    let e = shapes_refused (kind_rule c.args.two) t c.loop-kind.invariant (cc c.shape.ensures) c.in_err-shape.was in
+    grind arith
 
-pub returns-in-Refused : goal.returns-in-Refused
-returns-in-Refused c = search shapes_refused
-
-pub loop-i-preserved : goal.loop-i-preserved
-loop-i-preserved c = (
-  shapes_turn _ _ _ _ c.loop-i.i c.requires.0 c.requires.1 (search rules)
-      c.wide.ensures.0 c.wide-in-loop-i.ensures.0 c.wide-in-loop-i-2.ensures.0
-      c.loop-i.invariant.0 c.shape-o.ensures c.in_default.is,
-  search rules,
-)
+pub loop-kind-preserved : goal.loop-kind-preserved
+loop-kind-preserved c =
+    let t = turn_of c.loop-kind.kind-iterator c.next.new.self c.next.result _ c.in-Some.is c.next.ensures.steps in
+    shapes_turn (kind_rule c.args.two) t c.loop-kind.invariant (cc c.shape.ensures) c.in_ok-shape.was
 
 pub returns : goal.returns
-returns c = search shapes_end
+returns c =
+    sym (c.loop-kind.invariant ∙ shapes_end (kind_rule c.args.two) _ _ _ (end_of c.loop-kind.kind-iterator c.next.new.self c.next.result c.in-None.is c.next.ensures.steps))

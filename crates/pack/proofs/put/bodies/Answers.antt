@@ -1,47 +1,31 @@
 -- A turn puts the body of the next entry: what is then to be put stays the same.
-use mathlib.Core.Path.{refl}
-use lib.ListN.{length}
-use Rattle.words.proofs.Value.{fits_fit}
-use Rattle.bundle.specs.Bundle.{head_bytes}
-use Rattle.bundle.proofs.Bodies.{body_same}
-use Rattle.pack.proofs.Turns.{going_start, met_fits, going_on, bodies_start, bodies_turn, bodies_end}
-use borrow.Author.Rules.{rules}
+use mathlib.Core.Path.{ap}
+use mathlib.Core.List.{List}
+use Prim.Native.Nat.{ℕ}
 use native.Mathlib.Omega.{arith}
+use lib.ListN.{length}
+use Rattle.pack.proofs.Turns.{turn_of, end_of, met_words, going_on, bodies_turn, bodies_end}
+use borrow.Author.Rules.{rules}
 use Rattle.pack.proofs.put.bodies.Goals as goal
 
-pub loop-i-init : goal.loop-i-init
-loop-i-init c =
-    let g = c.args in
-    let n = length g.kinds.now in (
-      bodies_start g.kinds.now g.rows.now g.columns.now g.words.now g.out.now (head_bytes n),
-      going_start g.kinds.now g.rows.now g.columns.now g.words.now c.requires.0,
-      refl,
-    )
+pub split_at-requires : goal.split_at-requires
+split_at-requires c =
+    let t = turn_of c.loop-kind.kind-iterator c.next.new.self c.next.result _ c.in-Some.is c.next.ensures.steps in
+    omega (arith, met_words t _ c.loop-kind.invariant.going, c.body_words.ensures.0)
 
-pub overflow_mul-n : goal.overflow_mul-n
-overflow_mul-n c =
-    let f = met_fits c.requires.0 c.loop-i-test.true c.loop-i.invariant.1 c.wide.ensures.0 c.wide-in-loop-i.ensures.0 c.per_row.ensures in
-    search rules
-
-pub body-requires : goal.body-requires
-body-requires c =
-    let f = met_fits c.requires.0 c.loop-i-test.true c.loop-i.invariant.1 c.wide.ensures.0 c.wide-in-loop-i.ensures.0 c.per_row.ensures in
-    (omega (arith, c.loop-i.invariant.2, c.requires.1), f)
-
-pub overflow_add-a : goal.overflow_add-a
-overflow_add-a c =
-    let f = met_fits c.requires.0 c.loop-i-test.true c.loop-i.invariant.1 c.wide.ensures.0 c.wide-in-loop-i.ensures.0 c.per_row.ensures in
-    search rules
-
-pub loop-i-preserved : goal.loop-i-preserved
-loop-i-preserved c =
-    let e = body_same c.wide.result c.wide-in-loop-i.result c.per_row.ensures in
-    let fit = fits_fit c.args.words.now c.type_inv.words in (
-      bodies_turn c.requires.0 c.loop-i-test.true c.loop-i.invariant.1 c.wide.ensures.0 c.wide-in-loop-i.ensures.0 c.wide-k.ensures.0 e
-          c.loop-i.out (head_bytes (length c.args.kinds.now)) fit c.loop-i.invariant.0 (search rules) c.body.ensures,
-      going_on c.requires.0 c.loop-i-test.true c.loop-i.invariant.1 c.wide.ensures.0 c.wide-in-loop-i.ensures.0 e,
-      search rules,
-    )
+pub loop-kind-preserved : goal.loop-kind-preserved
+loop-kind-preserved c =
+    let v = c.loop-kind.invariant in
+    let t = turn_of c.loop-kind.kind-iterator c.next.new.self c.next.result _ c.in-Some.is c.next.ensures.steps in
+    rw (c.split_at.ensures.front, c.split_at.ensures.back)
+    (record {
+      to_put = bodies_turn t _ v.going c.body_words.ensures.0 c.loop-kind.out c.loop-kind.at v.to_put (omega arith) (rw c.split_at.ensures.front at c.body.ensures);
+      going = going_on t _ v.going c.body_words.ensures.0;
+      whole = search rules;
+      room = omega (arith, ap (λ (l : List ℕ). length l) c.split_at.ensures.front, ap (λ (l : List ℕ). length l) c.split_at.ensures.back);
+    })
 
 pub returns : goal.returns
-returns c = search bodies_end
+returns c =
+    bodies_end _ _ _ c.loop-kind.left.now (end_of c.loop-kind.kind-iterator c.next.new.self c.next.result c.in-None.is c.next.ensures.steps)
+    c.loop-kind.out _ c.loop-kind.invariant.to_put

@@ -12,11 +12,11 @@ use Rattle.pack.proofs.put.bundle.Goals as goal
 
 pub returns : goal.returns
 returns c =
-    let g = c.args in
-    let n = length g.kinds.now in
-    let es = given g.kinds.now g.rows.now g.columns.now g.words.now in
+    let e = c.args.entries.now in
+    let n = length e.kinds.now in
+    let es = given e.kinds.now e.rows.now e.columns.now e.words.now in
     c.bodies.ensures
     ∙ ap (splice (head_bytes n) (bodies_of es))
     (c.contents.ensures
-    ∙ ap (splice 2 (contents_of (head_bytes n) es)) c.size.ensures)
-    ∙ whole es n g.out.now (count_given g.kinds.now g.rows.now g.columns.now g.words.now c.requires.0.rows_too c.requires.0.columns_too) (omega (arith, c.requires.1))
+    ∙ ap (splice 2 (contents_of (head_bytes n) es)) c.number.ensures)
+    ∙ whole es n c.args.out.now (count_given e.kinds.now e.rows.now e.columns.now e.words.now e.checked.rows_too e.checked.columns_too) (omega (arith, c.requires))

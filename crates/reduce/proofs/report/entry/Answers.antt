@@ -1,40 +1,21 @@
--- Found, reduced and told; the other answers cannot be.
-use Rattle.bundle.specs.Bundle.{entry_at}
+-- The entry is found and reduced, and the rows that are shown are its first ones.
+use Rattle.std.proofs.Common.{rules}
 use Rattle.text.proofs.Putting.{put_within}
-use Rattle.reduce.proofs.Found.{entry_shown, rows_lent, entry_put, found_not_refused, found_not_unfit}
+use Rattle.reduce.proofs.Found.{entry_shown, rows_lent, entry_written}
 use Rattle.reduce.proofs.report.entry.Goals as goal
+
+pub unwrap-figures-requires : goal.unwrap-figures-requires
+unwrap-figures-requires c =
+    let shown = entry_shown _ _ _ _ _ _ _ c.requires.0 c.requires.1 c.requires.2 c.requires.3 c.reduce_entry.ensures in
+    search (rules, shown.says)
 
 pub row_lines-requires : goal.row_lines-requires
 row_lines-requires c =
-    let g = c.args in
-    let e = entry_at g.i g.bytes.now in
-    let R = c.reduce_entry-r in
-    let shown = entry_shown g.i g.bytes.now g.words.now g.room.now R.result R.new.words R.new.room c.requires.0 c.requires.1 c.requires.2 c.requires.3 R.ensures in
-    let F = c.in-Figures in
-    let lent = rows_lent e R.result R.new.words shown F.rows F.columns F.rank F.additions F.is in
-    (lent.1, lent.0, put_within c.entry_line-q.ensures)
+    let shown = entry_shown _ _ _ _ _ _ _ c.requires.0 c.requires.1 c.requires.2 c.requires.3 c.reduce_entry.ensures in
+    let lent = rows_lent _ _ _ shown _ c.unwrap-figures.ensures in
+    (lent.1, lent.0, put_within c.entry_line.ensures.put)
 
-pub returns-in-Refused : goal.returns-in-Refused
-returns-in-Refused c =
-    let g = c.args in
-    let e = entry_at g.i g.bytes.now in
-    let R = c.reduce_entry-r in
-    let shown = entry_shown g.i g.bytes.now g.words.now g.room.now R.result R.new.words R.new.room c.requires.0 c.requires.1 c.requires.2 c.requires.3 R.ensures in
-    absurd (found_not_refused e R.result R.new.words shown _ c.in-Refused.is)
-
-pub returns-in-Unfit : goal.returns-in-Unfit
-returns-in-Unfit c =
-    let g = c.args in
-    let e = entry_at g.i g.bytes.now in
-    let R = c.reduce_entry-r in
-    let shown = entry_shown g.i g.bytes.now g.words.now g.room.now R.result R.new.words R.new.room c.requires.0 c.requires.1 c.requires.2 c.requires.3 R.ensures in
-    absurd (found_not_unfit e R.result R.new.words shown c.in-Unfit.is)
-
-pub returns-in-Figures : goal.returns-in-Figures
-returns-in-Figures c =
-    let g = c.args in
-    let e = entry_at g.i g.bytes.now in
-    let R = c.reduce_entry-r in
-    let shown = entry_shown g.i g.bytes.now g.words.now g.room.now R.result R.new.words R.new.room c.requires.0 c.requires.1 c.requires.2 c.requires.3 R.ensures in
-    let F = c.in-Figures in
-    entry_put e R.result R.new.words shown F.rows F.columns F.rank F.additions F.is g.i g.p c.entry_line-q.result c.row_lines.result g.out.now c.entry_line-q.new.out c.row_lines.new.out c.entry_line-q.ensures c.row_lines.ensures
+pub returns : goal.returns
+returns c =
+    let shown = entry_shown _ _ _ _ _ _ _ c.requires.0 c.requires.1 c.requires.2 c.requires.3 c.reduce_entry.ensures in
+    entry_written _ _ _ shown _ c.unwrap-figures.ensures _ _ _ _ c.entry_line.ensures c.row_lines.ensures

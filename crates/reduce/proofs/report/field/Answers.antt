@@ -1,6 +1,6 @@
 -- A name, then a number.
-use Rattle.text.proofs.Putting.{put_then}
+use Rattle.text.proofs.Putting.{written_then}
 use Rattle.reduce.proofs.report.field.Goals as goal
 
 pub returns : goal.returns
-returns c = put_then c.bytes-q.ensures c.decimal.ensures
+returns c = written_then c.bytes.ensures c.decimal.ensures

@@ -1,5 +1,5 @@
-use Rattle.std.proofs.Common.{◌-◌}
+use Rattle.std.proofs.Common.{◌≤◌}
 use Rattle.trial.proofs.plain.reduce.Given as goal
 
-abbrev pub decreases-loop-c : goal.decreases-loop-c
-decreases-loop-c l = l.columns - l.c
+abbrev pub invariant-loop-c : goal.invariant-loop-c
+invariant-loop-c g l = l.rank ≤ l.c

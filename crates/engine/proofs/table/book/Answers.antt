@@ -1,8 +1,0 @@
--- The table is the list of the codes of 0 to 255: antt computes both.
-use Rattle.engine.proofs.Codebook.{book}
-use Rattle.gf2.specs.Rows.{tabulate}
-use Rattle.engine.proofs.table.book.Goals as goal
-
-pub returns : goal.returns
-unfolding tabulate
-returns c = book

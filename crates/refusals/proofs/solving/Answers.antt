@@ -1,5 +1,0 @@
--- The checks in order.
-use Rattle.refusals.proofs.solving.Goals as goal
-
-pub returns : goal.returns
-returns c = cc
