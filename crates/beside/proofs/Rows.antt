@@ -1,5 +1,5 @@
 -- Row after row: each row of m, with a one more in its own column past them all.
-use mathlib.Core.Path.{◌≡◌, sym, ap, ◌∙◌, subst}
+use mathlib.Core.Path.{◌≡◌, refl, sym, ap, ◌∙◌, subst}
 use mathlib.Core.List.{List}
 use Prim.Native.Nat.{ℕ, ◌+◌, ◌*◌, ◌^◌, ◌≤◌, ◌<◌}
 use native.Mathlib.Decide.{ℕ_discrete}
@@ -29,6 +29,9 @@ pub record Adjoined (v w rows columns i : ℕ) (m d₀ d : List ℕ) : Type 0 wh
   pub rest : drop (rows * v) d ≡ drop (rows * v) d₀
 
 module _ (v w rows columns : ℕ) (m d₀ : List ℕ) where
+  pub adjoined_none : Adjoined v w rows columns 0 m d₀ d₀
+  adjoined_none = record { done = λ j h. absurd (omega arith); rest = refl }
+
   module _ (i : ℕ) (d : List ℕ) (hi : i < rows) (hd : rows * v ≤ length d) (a : Adjoined v w rows columns i m d₀ d) where
     adjoined_one : (x : ℕ) → x < 2 ^ (64 * v) → x ≡ row (rows_of w rows m) i ⊕ 2 ^ (columns + i) → Adjoined v w rows columns (i + 1) m d₀ (paste d (i * v) (first_words v x) v)
     adjoined_one x l e = record {

@@ -6,6 +6,7 @@ use mathlib.Core.Logic.{◌⊎◌, inl, inr}
 use Prim.Native.Nat.{ℕ, ◌*◌, ◌<◌, ◌≤◌}
 use lib.Dec.{leb}
 use native.Mathlib.Omega.{arith}
+use native.Mathlib.Nat.{mul-le-mul_right}
 use lib.ListN.{length, take, drop}
 use lib.Seq.{length-take-le, take_at}
 use borrow.Author.Tests.{eq-eqb, le-leb, lt-leb}
@@ -16,6 +17,7 @@ use Rattle.gf2.specs.Rref.{rref}
 use Rattle.words.specs.Words.{Fit, words_of, rows_of, flat}
 use Rattle.words.proofs.Value.{fit_take}
 use Rattle.refusals.specs.declared.Refusal.{Refusal}
+use Rattle.refusals.specs.Checks.{Sized}
 use Rattle.matrix.specs.declared.Answer.{Answer}
 use Rattle.matrix.specs.Calls.{reduced_answer, Reduction, TableCleared, ReductionPromised}
 use Rattle.bundle.specs.Bundle.{Entry, body_words, both_kinds, meaning}
@@ -27,6 +29,10 @@ use Rattle.desk.specs.declared.NotReduced.TheVariants.{Refused, Unfit}
 use Rattle.desk.specs.Desk.{window_columns, table_rows, reduced_of, room_for, ReducedBy, ReducedFound, ReducedEntry}
 use Rattle.desk.proofs.Sound.{Sound, found_sound}
 use Rattle.desk.proofs.Form.{passes, form_rows, form_words}
+
+-- the words of a body are few
+pub few_words : (rows columns w : ℕ) → Sized 512 rows columns → w ≡ words_of columns → rows * w ≤ 8192
+few_words rows columns w s e = omega (arith, mul-le-mul_right w s.few, s.wide, e)
 
 -- none is found, and so it is told
 pub not_found : (F : Lookup) (x : Refusal) (words room : List ℕ) → Err x ≡ told_of F → ReducedFound F words room (Err (Refused x)) words room

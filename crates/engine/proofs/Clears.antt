@@ -1,13 +1,13 @@
 -- The loop that adds to the last v words of each row, from word z on, the table row whose number it has.
-use mathlib.Core.Path.{◌≡◌, sym, ap, ◌∙◌, subst}
+use mathlib.Core.Path.{◌≡◌, refl, sym, ap, ◌∙◌, subst}
 use mathlib.Core.Logic.{◌≢◌}
 use mathlib.Core.List.{List}
 use Prim.Native.Nat.{ℕ, ◌+◌, ◌*◌, ◌^◌, ◌<◌, ◌≤◌}
 use native.Mathlib.Decide.{ℕ_discrete}
 use native.Mathlib.Omega.{arith}
 use lib.Bits.{xor_zero_r}
-use lib.ListN.{length, get_or, drop, set}
-use lib.Seq.{paste, get_or-set_same, get_or-set_other, set-get_or, length-paste}
+use lib.ListN.{length, get_or, take, drop, set}
+use lib.Seq.{paste, get_or-set_same, get_or-set_other, set-get_or, length-paste, drop-drop}
 use Rattle.gf2.specs.Rows.{◌⊕◌, row, part, pick}
 use Rattle.gf2.proofs.Products.{is_tabulate}
 use Rattle.words.specs.Words.{Fit, value, rows_of, xors}
@@ -49,6 +49,9 @@ pub record Clears (w z n i : ℕ) (o : List ℕ) (T : ℕ → ℕ) (m₀ m : Lis
   pub fit : Fit m
 
 module _ (w z n : ℕ) (o : List ℕ) (T : ℕ → ℕ) where
+  pub clears_start : (m : List ℕ) → Fit m → Clears w z n 0 o T m m
+  clears_start m f = record { rows = record { done = λ k h. absurd (omega arith); rest = λ k h. refl }; past = refl; long = refl; fit = f }
+
   -- a row of number 0 stays
   pub clears_none : (i : ℕ) (m₀ m : List ℕ) → i < n → get_or o i 0 ≡ 0 → Clears w z n i o T m₀ m → Clears w z n (i + 1) o T m₀ m
   clears_none i m₀ m h q s = record {
@@ -87,3 +90,7 @@ module _ (w z n : ℕ) (o : List ℕ) (T : ℕ → ℕ) where
             (subst (λ (k : ℕ). Clearing k (adds z o T) (rows_of w n m₀) (rows_of w n m)) q s.rows).done;
         past = s.past;
       }
+
+-- words behind the rows, as long as nothing there changes
+pub table_words : (b k v : ℕ) (m m₀ : List ℕ) → drop b m ≡ drop b m₀ → part (b + k) v m ≡ part k v (drop b m₀)
+table_words b k v m m₀ e = ap (take v) (sym (drop-drop k b m) ∙ ap (drop k) e)

@@ -1,5 +1,6 @@
 -- The core's test of its shapes says exactly whether they fit.
 use mathlib.Core.Path.{◌≡◌, sym, ap, ap₂, ◌∙◌, subst}
+use mathlib.Core.Logic.{◌≢◌}
 use mathlib.Core.Bool.{true}
 use Rattle.std.specs.Prelude.{Ok}
 use mathlib.Core.List.{List, ◌++◌}
@@ -12,12 +13,17 @@ use Rattle.gf2.specs.Additions.{additions}
 use Rattle.words.specs.Words.{words_of, rows_of, holds_rows, zeroed}
 use Rattle.words.proofs.Padding.{holds_exactly}
 use Rattle.words.proofs.Rows.{rows_take, rows_front}
-use Rattle.refusals.proofs.Chain.{Passes}
+use Rattle.refusals.specs.Outcome.{Outcome, outcome_number, ◌and_then◌}
+use Rattle.refusals.proofs.Chain.{Passes, done_then}
 use Rattle.refusals.specs.Checks.{bad_columns, bad_k, short_room}
 use Rattle.refusals.proofs.Passed.{columns_done, done_columns, window_done, done_window, room_done, done_room}
 use Rattle.engine.specs.declared.Eliminated.{Eliminated}
 use Rattle.engine.specs.Core.{Fits, ReducedTo, OneRoom}
 use Rattle.engine.specs.Stage.{Reduces}
+
+-- the checks of numbers
+abbrev pub checks : ℕ → ℕ → ℕ → ℕ → Outcome
+checks columns k more room = bad_columns columns and_then bad_k k and_then short_room more k columns room
 
 module _ (rows columns k more room list : ℕ) (m : List ℕ) where
   -- each check passes where the shapes fit, and all of them give the shapes
@@ -29,6 +35,12 @@ module _ (rows columns k more room list : ℕ) (m : List ℕ) where
 
   pub enough_room : Fits rows columns k more room list m → Passes (short_room more k columns room)
   enough_room f = done_room more k columns room f.table.roomy
+
+  fits_checks : Fits rows columns k more room list m → Passes (checks columns k more room)
+  fits_checks f = done_then (done_then (right_columns f) (right_k f)) (enough_room f)
+
+  pub wrong_shape : {o : Outcome} → o ≡ checks columns k more room → outcome_number o ≢ 0 → Fits rows columns k more room list m → ⊥
+  wrong_shape e h f = h (ap outcome_number (e ∙ fits_checks f))
 
   pub clean_rows : Fits rows columns k more room list m → holds_rows rows columns m ≡ true
   clean_rows f = (holds_exactly rows columns m).1 (f.shape.held, f.shape.clean)
@@ -48,6 +60,9 @@ module _ (rows columns k more room list : ℕ) (m : List ℕ) where
 module _ {rows columns k w : ℕ} (e : w ≡ words_of columns) where
   pub table_fits : {room list : ℕ} {m : List ℕ} → Fits rows columns k 0 room list m → 2 ^ k * w ≤ room
   table_fits f = rw e (rw (zero-add (2 ^ k)) at f.table.roomy)
+
+  pub room_fits : {room list : ℕ} {m : List ℕ} → Fits rows columns k rows room list m → (rows + 2 ^ k) * w ≤ room
+  room_fits f = rw e f.table.roomy
 
   pub rows_fit : {more room list : ℕ} {m : List ℕ} → Fits rows columns k more room list m → rows * w ≤ length m
   rows_fit f = rw e f.shape.held

@@ -79,6 +79,9 @@ settle_more w base s p i c M cols N K own low high a hi S f e = record {
 
 -- ---- lift: pivot row p cleared
 
+pub lift_start : (c base s : ℕ) (M : List ℕ) → Lifted c base s base M M
+lift_start c base s M = record { up = λ j a l. absurd (omega arith); kept = λ j h. refl }
+
 pub lift_more : (c base s p : ℕ) (M N K : List ℕ) → base ≤ p → p < base + s → base + s < length N → Lifted c base s p M N
     → K ≡ set N p (row N p ⊕ pick (bit c (row N p)) (row N (base + s))) → Lifted c base s (p + 1) M K
 lift_more c base s p M N K low high hl S e = record { up = λ j a l. up j a l (ℕ_discrete j p); kept = kept }

@@ -11,14 +11,14 @@ use lib.Count.{count_trailing_zeros}
 use lib.ListN.{length, drop_of_length-le, set, replicate, length-replicate}
 use lib.Pow.{pow_pos, pow_mono}
 use Rattle.std.proofs.lemmas.List.Edits.{paste_all}
-use lib.Seq.{paste, take_all, get_or-set_same, get_or-set_other}
+use lib.Seq.{paste, take_all, get_or-set_same, get_or-set_other, ext_get_or, length-paste}
 use Rattle.gf2.specs.Additions.{table_additions}
 use Rattle.gf2.specs.Rows.{◌⊕◌, row, part, combine}
 use Rattle.gf2.proofs.Bits.{bit_above}
 use Rattle.gf2.proofs.Pivot.{trailing_pivot}
 use Rattle.gf2.proofs.Space.{combine_zero}
 use Rattle.words.specs.Words.{Fit, value, rows_of, xors}
-use Rattle.words.proofs.Parts.{length_xors}
+use Rattle.words.proofs.Parts.{length_xors, length_part, get_or_part, paste_in}
 use Rattle.words.proofs.Value.{value_zeros, value_xors}
 use Rattle.words.proofs.Rows.{length_rows, rows_paste}
 use Rattle.method.specs.Gray.{gray}
@@ -87,6 +87,19 @@ unfolding table_additions
 additions_done r l e = omega arith
 
 -- ---- by way of a local row
+
+-- words just put there
+part_put : (m : List ℕ) (a v : ℕ) (y : List ℕ) → a + v ≤ length m → length y ≡ v → part a v (paste m a y v) ≡ y
+part_put m a v y h e =
+    let p : List ℕ = paste m a y v in
+    let lp : length p ≡ length m = length-paste m a y v h (omega arith) in
+    let la : length (part a v p) ≡ v = length_part a v p (omega arith) in
+    ext_get_or 0 (part a v p) y (la ∙ sym e)
+    (λ j l. let hj : j < v = omega arith in get_or_part a v p j hj ∙ paste_in m a y v h (omega arith) j hj)
+
+-- words copied to the local row and on
+pub by_local : (b v : ℕ) (s x x' : List ℕ) → v ≤ length x → b + v ≤ length s → x' ≡ paste x 0 (part b v s) v → part 0 v x' ≡ part b v s
+by_local b v s x x' hx hs e = ap (part 0 v) e ∙ part_put x 0 v (part b v s) (omega arith) (length_part b v s hs)
 
 -- words added to the whole of it
 pub row_added : (v : ℕ) (x y : List ℕ) → length x ≡ v → paste x 0 (xors (part 0 v x) y) v ≡ xors x y

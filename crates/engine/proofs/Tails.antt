@@ -9,18 +9,44 @@ use native.Mathlib.Omega.{arith}
 use lib.Bits.{xor_block, xor_zero_r}
 use lib.ListN.{length, get_or, set, take, drop, length-map, length-append}
 use lib.Pow.{low, pow_pos}
-use lib.Seq.{paste, ext_get_or, take_all, take-add, drop-drop}
+use lib.Seq.{paste, ext_get_or, take_all, take-add, drop-drop, length-take-le, get_or-take, take-take, take-append-le, drop_at}
 use Rattle.gf2.specs.Rows.{◌⊕◌, row, part, pick, combine}
 use Rattle.gf2.proofs.Space.{combine_zero, combine_map}
 use Rattle.gf2.proofs.Products.{tabulate_row, tabulate_length, is_tabulate, map_row}
 use Rattle.words.specs.Words.{Fit, value, rows_of, xors}
-use Rattle.words.proofs.Parts.{length_xors, length_part}
+use Rattle.words.proofs.Parts.{length_xors, length_part, part_same}
 use Rattle.words.proofs.Value.{value_lt, value_append, value_xors, part_fits}
 use Rattle.words.proofs.Rows.{row_ends, length_rows, get_or_rows, rows_paste}
 use Rattle.method.proofs.Pending.{part_row}
 use Rattle.engine.specs.Stage.{spaced, Table, table_row, added, cleared}
 
 -- ---- words
+
+-- a store past word b, seen from there
+pub paste_behind : (m : List ℕ) (b k : ℕ) (y : List ℕ) (v : ℕ) → b ≤ length m → drop b (paste m (b + k) y v) ≡ paste (drop b m) k y v
+paste_behind m b k y v h =
+    let A : List ℕ = take b m in
+    let B : List ℕ = take k (drop b m) in
+    let Y : List ℕ = take v y in
+    let D : List ℕ = drop (b + k + v) m in
+    ap (λ (X : List ℕ). drop b ((X ++ Y) ++ D)) (take-add b k m)
+    ∙ ap (λ (X : List ℕ). drop b (X ++ D)) (append_assoc A B Y)
+    ∙ ap (drop b) (append_assoc A (B ++ Y) D)
+    ∙ drop_at A ((B ++ Y) ++ D) b (length-take-le b m h)
+    ∙ ap (λ (X : List ℕ). (B ++ Y) ++ X) (ap (λ (i : ℕ). drop i m) (add_assoc b k v) ∙ sym (drop-drop (k + v) b m))
+
+-- and from before it
+pub paste_front : (m : List ℕ) (b a : ℕ) (y : List ℕ) (v : ℕ) → b ≤ a → a ≤ length m → take b (paste m a y v) ≡ take b m
+paste_front m b a y v h l =
+    let la : length (take a m) ≡ a = length-take-le a m l in
+    take-append-le b (take a m ++ take v y) (drop (a + v) m) (omega (arith, length-append (take a m) (take v y)))
+    ∙ take-append-le b (take a m) (take v y) (omega arith) ∙ take-take b a m h
+
+-- a part before word b
+pub part_front : (b a v : ℕ) (m m₀ : List ℕ) → a + v ≤ b → b ≤ length m → b ≤ length m₀ → take b m ≡ take b m₀ → part a v m ≡ part a v m₀
+part_front b a v m m₀ h l l₀ e =
+    part_same m m₀ a v (omega arith) (omega arith)
+    (λ j hj. let i : a + j < b = omega arith in sym (get_or-take b m (a + j) 0 i) ∙ ap (λ (X : List ℕ). get_or X (a + j) 0) e ∙ get_or-take b m₀ (a + j) 0 i)
 
 -- a store into the end of a part is a store of the whole part
 paste_tail : (m : List ℕ) (a z v : ℕ) (y : List ℕ) → a + z ≤ length m → length y ≡ v → paste m (a + z) y v ≡ paste m a (part a z m ++ y) (z + v)

@@ -4,7 +4,7 @@ use mathlib.Core.Logic.{◌⊎◌, inl, inr}
 use mathlib.Core.List.{List, ◌++◌}
 use Prim.Native.Nat.{ℕ, zero, suc, ◌+◌, ◌-◌, ◌*◌, ◌/◌, ◌%◌, ◌^◌, ◌<◌, ◌≤◌}
 use native.Mathlib.Decide.{dec_lt}
-use native.Mathlib.Nat.{suc-mul, lt_of_lt_of_le, mul-le-mul_right, mul-suc, zero-mul}
+use native.Mathlib.Nat.{suc-mul, lt_of_lt_of_le, mul-le-mul_right, mul-suc, zero-mul, le_trans}
 use native.Mathlib.Numerals.{add-one}
 use native.Mathlib.Omega.{arith}
 use lib.Bits.{xor_zero_r}
@@ -244,6 +244,21 @@ window_applies {w = w} {n = n} {c = c} {k = k} {base = base} {r = r} {m = m} {h 
 -- what lies past 2 ^ r rows lies past 2 ^ k
 pub table_rest : (r k w : ℕ) (x y : List ℕ) → r ≤ k → drop (2 ^ r * w) x ≡ drop (2 ^ r * w) y → drop (2 ^ k * w) x ≡ drop (2 ^ k * w) y
 table_rest r k w x y h = drop_more (2 ^ r * w) (2 ^ k * w) x y (table_room r k w h)
+
+-- ---- matrix and table in one room: n rows, and a or b behind them
+
+pub room_less : (w n a b len : ℕ) → a ≤ b → (n + b) * w ≤ len → (n + a) * w ≤ len
+room_less w n a b len h l = le_trans (mul-le-mul_right w (omega arith)) l
+
+pub room_rows : (w n b len : ℕ) → (n + b) * w ≤ len → n * w ≤ len
+room_rows w n b len l = le_trans (mul-le-mul_right w (omega arith)) l
+
+pub room_drop : (w n b : ℕ) (x y : List ℕ) → drop (n * w) x ≡ drop (n * w) y → drop ((n + b) * w) x ≡ drop ((n + b) * w) y
+room_drop w n b x y = drop_more (n * w) ((n + b) * w) x y (mul-le-mul_right w (omega arith))
+
+pub table_rest_in : (n r k w : ℕ) (x y : List ℕ) → r ≤ k → drop ((n + 2 ^ r) * w) x ≡ drop ((n + 2 ^ r) * w) y → drop ((n + 2 ^ k) * w) x ≡ drop ((n + 2 ^ k) * w) y
+table_rest_in n r k w x y h =
+    drop_more ((n + 2 ^ r) * w) ((n + 2 ^ k) * w) x y (mul-le-mul_right w (omega (arith, pow_mono {i = r} {j = k} h)))
 
 -- a table takes at most 255 additions
 pub table_small : (r : ℕ) → r ≤ 8 → table_additions r ≤ 255

@@ -18,7 +18,7 @@ use Rattle.refusals.specs.Outcome.{Outcome}
 use Rattle.refusals.specs.Checks.{InversePasses}
 use Rattle.beside.specs.Beside.{FitsBeside, Beside, BesideReduced, BesideCleared}
 use Rattle.beside.proofs.Room.{room_reduced, room_clean, room_cleared}
-use Rattle.readoff.specs.ReadOff.{Halves, Halved}
+use Rattle.readoff.specs.ReadOff.{Reading, Halves, Halved}
 use Rattle.readoff.proofs.Clean.{half_rows}
 use Rattle.inverse.specs.Calls.{Inverted}
 
@@ -56,6 +56,11 @@ module _ (n k : ℕ) (m result room room₁ : List ℕ) (passes : InversePasses 
     matrix = record { wide = omega (arith, passes.sized.few); held = omega (arith, passes.roomy, add-mul n (2 ^ k) (words_of (n + n))) };
     fitting = passes.fitting;
   }
+
+  -- so something is read
+  pub is_read : (result' : List ℕ) (read : Reading) → Halved read n room₁ result result' → (exists : Bool) × (read ≡ Ok exists)
+  is_read result' (Ok exists) h = (exists, refl)
+  is_read result' (Err u) h = absurd (h.0 halves)
 
   pub inverted : (result' : List ℕ) (exists : Bool) → Halved (Ok exists) n room₁ result result' → Inverted n m result (answer_for exists) result'
   inverted result' true h =

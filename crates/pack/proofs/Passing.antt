@@ -1,12 +1,14 @@
 -- The writer's checks refuse nothing exactly if what passing means holds; and each of their answers.
-use mathlib.Core.Path.{refl, sym, ap}
+use mathlib.Core.Path.{◌≡◌, refl, sym, ap, ◌∙◌}
 use mathlib.Core.Bool.{not}
 use mathlib.Core.List.{List, [], ◌∷◌}
-use Prim.Native.Nat.{ℕ}
+use mathlib.Core.Logic.{◌≢◌}
+use Prim.Native.Nat.{ℕ, ◌≤◌}
 use lib.ListN.{length}
-use borrow.Author.Tests.{not-false}
+use borrow.Author.Tests.{not-false, le-ltb, eq-eqb, ne_eqb}
+use Rattle.std.specs.Prelude.{Ok}
 use Rattle.words.specs.Words.{Fit}
-use Rattle.refusals.specs.Outcome.{Outcome, ◌and_then◌}
+use Rattle.refusals.specs.Outcome.{Outcome, ◌and_then◌, first}
 use Rattle.refusals.proofs.Chain.{Passes, then_done, done_then, passing, passed}
 use Rattle.refusals.proofs.Passed.{if_done, done_if, same_done, done_same}
 use Rattle.bundle.specs.Bundle.{bad_shape}
@@ -61,3 +63,10 @@ module _ (rule : ℕ → Outcome) (ks rs cs ws : List ℕ) (room : ℕ) where
       (done_if _ (ap not w.clean))
       (done_most _ 65535 size w.short)
       (done_most _ room size w.fits))
+
+-- the checks before the rest have passed, and the rest decides
+pub write_goes : (rule : ℕ → Outcome) (ks rs cs ws : List ℕ) (room : ℕ) (o v : Outcome) → length rs ≡ length ks → length cs ≡ length ks → length ks ≢ 0 → length ks ≤ 64
+    → o ≡ shapes_checks rule ks rs cs → o ≡ Ok tt → v ≡ first (rest_order ks rs cs ws room) → v ≡ write_checks rule ks rs cs ws room
+unfolding write_order
+write_goes rule ks rs cs ws room o v er ec ne few eo z e =
+    e ∙ simp (eq-eqb (length rs) (length ks) er, eq-eqb (length cs) (length ks) ec, ne_eqb (length ks) 0 ne, le-ltb 64 (length ks) few, ← eo, z)

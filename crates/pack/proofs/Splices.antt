@@ -5,8 +5,8 @@ use Prim.Native.Nat.{ℕ, zero, suc, ◌+◌, ◌-◌, ◌*◌, ◌/◌, ◌%◌
 use native.Mathlib.Nat.{zero-add, div-div-eq-div-mul, pow-suc}
 use native.Mathlib.Numerals.{add-one}
 use native.Mathlib.Omega.{arith}
-use lib.ListN.{length, take, drop, get_or, length-append, length-drop, take-append-drop, drop_of_length-le}
-use lib.Seq.{drop-cons, drop-drop, length-take-le, take_at, drop_at}
+use lib.ListN.{length, get_or, take, drop, set, length-append, length-drop, take-append-drop, drop_of_length-le}
+use lib.Seq.{drop-cons, drop-drop, length-take-le, take_at, drop_at, take-suc-set, drop-set-lt, append_snoc}
 use borrow.Rule.Slice.PartMut.{put_mid}
 use Rattle.std.specs.Int.{byte_at, bytes_low_first}
 use Rattle.wire.specs.Bytes.{bytes_of}
@@ -22,6 +22,16 @@ unfolding splice
 splice_none p out =
     let z : p + 0 ≡ p = omega arith in
     ap (λ (k : ℕ). take p out ++ drop k out) z ∙ take-append-drop p out
+
+splice_cons : (p v : ℕ) (xs out : List ℕ) → p < length out → splice p (v ∷ xs) out ≡ splice (p + 1) xs (set out p v)
+unfolding splice
+splice_cons p v xs out h =
+    let e₁ : take (p + 1) (set out p v) ≡ take p out ++ (v ∷ []) = ap (λ (k : ℕ). take k (set out p v)) (add-one p) ∙ take-suc-set out p v h in
+    let e₂ : p + suc (length xs) ≡ p + 1 + length xs = omega arith in
+    let e₃ : drop (p + 1 + length xs) (set out p v) ≡ drop (p + 1 + length xs) out = drop-set-lt (p + 1 + length xs) out p v (omega arith) in
+    ap (λ (k : ℕ). take p out ++ (v ∷ (xs ++ drop k out))) e₂
+    ∙ sym (append_snoc (take p out) v (xs ++ drop (p + 1 + length xs) out))
+    ∙ ap₂ (λ (a d : List ℕ). a ++ (xs ++ d)) (sym e₁) (sym e₃)
 
 pub splice_append : (p : ℕ) (xs ys out : List ℕ) → p ≤ length out → splice p (xs ++ ys) out ≡ splice (p + length xs) ys (splice p xs out)
 unfolding splice
@@ -53,6 +63,30 @@ length_splice p xs out h =
     ∙ omega (arith, length-take-le p out (omega arith), length-drop (p + length xs) out)
 
 -- ---- the bytes of a number
+
+-- byte by byte: f is the output to come, i bytes are put, and y is what is left of the number
+
+pub number_start : (out : List ℕ) (p k x : ℕ) → splice p (bytes_of k x) out ≡ splice (p + 0) (bytes_of (k - 0) x) out
+number_start out p k x =
+    let a : p ≡ p + 0 = omega arith in
+    let c : k ≡ k - 0 = omega arith in
+    ap₂ (λ (i j : ℕ). splice i (bytes_of j x) out) a c
+
+module _ {f : List ℕ} (out : List ℕ) (p k i y : ℕ) (e : f ≡ splice (p + i) (bytes_of (k - i) y) out) where
+  pub number_turn : {v : ℕ} → i < k → p + k ≤ length out → v ≡ y % 256 → f ≡ splice (p + (i + 1)) (bytes_of (k - (i + 1)) (y / 256)) (set out (p + i) v)
+  unfolding bytes_of
+  number_turn h r ev =
+      let m : k - i ≡ suc (k - (i + 1)) = omega arith in
+      let q : p + i + 1 ≡ p + (i + 1) = omega arith in
+      e ∙ ap (λ (j : ℕ). splice (p + i) (bytes_of j y) out) m
+      ∙ splice_cons (p + i) (y % 256) (bytes_of (k - (i + 1)) (y / 256)) out (omega arith)
+      ∙ ap₂ (λ (j w : ℕ). splice j (bytes_of (k - (i + 1)) (y / 256)) (set out (p + i) w)) q (sym ev)
+
+  pub number_end : k ≤ i → out ≡ f
+  unfolding bytes_of
+  number_end h =
+      let m : k - i ≡ 0 = omega arith in
+      sym (e ∙ ap (λ (j : ℕ). splice (p + i) (bytes_of j y) out) m ∙ splice_none (p + i) out)
 
 -- the library's bytes of a number, from byte i on, are its digits
 low_bytes : (n i x : ℕ) → bytes_low_first i n x ≡ bytes_of n (x / 256 ^ i)
@@ -108,6 +142,15 @@ head_steps p k r c o out h =
 
 pub drop_next : (l : List ℕ) (i : ℕ) → i < length l → drop i l ≡ get_or l i 0 ∷ drop (i + 1) l
 drop_next l i h = drop-cons l i 0 h ∙ ap (λ (k : ℕ). get_or l i 0 ∷ drop k l) (sym (add-one i))
+
+pub words_start : (out ws : List ℕ) (p kind a n : ℕ)
+    → splice p (bytes_of_words kind (take n (drop a ws))) out ≡ splice (p + 8 * 0) (bytes_of_words kind (take (n - 0) (drop (a + 0) ws))) out
+words_start out ws p kind a n =
+    let e₁ : p ≡ p + 8 * 0 = omega arith in
+    let e₂ : n ≡ n - 0 = omega arith in
+    let e₃ : a ≡ a + 0 = omega arith in
+    ap (λ (k : ℕ). splice k (bytes_of_words kind (take n (drop a ws))) out) e₁
+    ∙ ap₂ (λ (i j : ℕ). splice (p + 8 * 0) (bytes_of_words kind (take i (drop j ws))) out) e₂ e₃
 
 module _ {f : List ℕ} (out ws : List ℕ) (p kind j : ℕ) (e : f ≡ splice (p + 8 * j) (bytes_of_words kind (drop j ws)) out) where
   pub words_turn : {out' : List ℕ} {x : ℕ} → j < length ws → p + 8 * length ws ≤ length out

@@ -3,10 +3,10 @@ use mathlib.Core.Path.{◌≡◌, refl, sym, ap, ap₂, ◌∙◌, subst}
 use mathlib.Core.Bool.{Bool, true, false, ◌&&◌}
 use mathlib.Core.List.{List, [], ◌∷◌, ◌++◌}
 use mathlib.Core.Logic.{◌⊎◌, inl, inr}
-use Prim.Native.Nat.{ℕ, ◌+◌, ◌*◌, ◌≤◌}
+use Prim.Native.Nat.{ℕ, ◌+◌, ◌-◌, ◌*◌, ◌≤◌}
 use native.Mathlib.Nat.{mul-le-mul_right}
 use native.Mathlib.Omega.{arith}
-use lib.ListN.{length, take, drop, length-drop}
+use lib.ListN.{length, take, drop, length-drop, drop_of_length-le}
 use lib.Seq.{length-take-le}
 use denote.Ref.{Bor}
 use Rattle.std.specs.Prelude.{Option, None, Some, Ok, Err, sum_by, zip}
@@ -27,16 +27,38 @@ use Rattle.wire.specs.Kinds.{bytes_of_words}
 use Rattle.wire.proofs.Orders.{length_words_bytes}
 use Rattle.refusals.specs.declared.Refusal.{Refusal}
 use Rattle.refusals.specs.Outcome.{Outcome, ◌and_then◌}
+use Rattle.refusals.specs.Checks.{Sized}
 use Rattle.refusals.proofs.Chain.{Passes, then_done}
 use Rattle.bundle.specs.Bundle.{Entry, body_words, bad_shape}
+use Rattle.bundle.proofs.Bodies.{body_same}
+use Rattle.bundle.proofs.Passing.{shaped}
 use Rattle.pack.specs.Encode.{head_of, contents_of, body_of, bodies_of}
 use Rattle.pack.specs.Writing.{given, shapes_checks, all_words, all_narrow}
-use Rattle.pack.specs.Steps.{splice, any_kind, first_left, second_left, third_left}
+use Rattle.pack.specs.Steps.{splice, any_kind, first_left, second_left, third_left, Checked}
 use Rattle.pack.proofs.Lengths.{length_head}
 use Rattle.pack.proofs.Splices.{splice_none, splice_append}
 
 pub body_small : (r w : ℕ) → r ≤ 65535 → w ≤ 1024 → r * w ≤ 67107840
 body_small r w hr hw = omega (arith, mul-le-mul_right w hr)
+
+-- an entry whose words begin at word a of those given
+pub record Met (ws : List ℕ) (a r c : ℕ) : Type 0 where
+  pub shape : Sized 512 r c
+  pub inside : a + body_words r c ≤ length ws
+
+module _ (ws : List ℕ) (a r c : ℕ) {w : ℕ} (h : a + body_words r c ≤ length ws) (ew : w ≡ words_of c) where
+  pub body_fits : a + r * w ≤ length ws
+  body_fits = omega (arith, body_same r c ew)
+
+  pub part_holds : holds_rows r c (take ((a + r * w) - a) (drop a ws)) ≡ narrow c (rows_of (words_of c) r (drop a ws))
+  part_holds =
+      let z : (a + r * w) - a ≡ r * w = omega arith in
+      let n : ℕ = r * words_of c in
+      let e : r * w ≡ n = ap (λ (x : ℕ). r * x) ew in
+      let l : n ≤ length (drop a ws) = omega (arith, body_fits, length-drop a ws, e) in
+      ap (λ (x : ℕ). holds_rows r c (take x (drop a ws))) (z ∙ e)
+      ∙ sym (holds_narrow r c (take n (drop a ws)) (omega (arith, length-take-le n (drop a ws) l)))
+      ∙ ap (narrow c) (rows_take (words_of c) r (drop a ws))
 
 -- ---- three lists read together: ks, rs and cs are left before a turn, ks', rs' and cs' behind it
 
@@ -87,6 +109,10 @@ pub sum_step : {ks rs cs ks' rs' cs' : List ℕ} {k r c : ℕ} → Turn k r c ks
 unfolding all_words
 sum_step t = ap₂ all_words t.0.1 t.1
 
+pub words_none : (rs cs : List ℕ) (i : ℕ) → length rs ≤ i → all_words (drop i rs) (drop i cs) ≡ 0
+unfolding all_words
+words_none rs cs i h = rw (drop_of_length-le rs {i = i} h)
+
 -- the sum over the pairs of rows and columns
 pub words_sum : (rs cs : List ℕ) → sum_by (λ (p : ℕ × ℕ). body_words p.0 p.1) (zip rs cs) ≡ all_words rs cs
 unfolding all_words
@@ -100,6 +126,9 @@ pub record Going (ks rs cs ws : List ℕ) : Type 0 where
   pub shapes : shapes_checks any_kind ks rs cs ≡ Ok tt
   pub words_fit : all_words rs cs ≡ length ws
   pub fit : Fit ws
+
+pub going_start : (ks rs cs ws : List ℕ) → Checked ks rs cs ws → Going ks rs cs ws
+going_start ks rs cs ws g = record { shapes = g.shapes; words_fit = g.words_fit; fit = g.fit }
 
 abbrev entry_of : ℕ → ℕ → ℕ → List ℕ → Entry
 entry_of k r c ws = record { kind = k; rows = r; columns = c; matrix = rows_of (words_of c) r ws }
@@ -135,6 +164,12 @@ module _ {ks rs cs ks' rs' cs' : List ℕ} {k r c : ℕ} (t : Turn k r c ks rs c
 
     pub met_words : body_words r c ≤ length ws
     met_words = omega (arith, count)
+
+    pub met : Met ws 0 r c
+    met = record { shape = shaped r c step.0; inside = omega (arith, met_words) }
+
+    pub met_fits : {w : ℕ} → w ≡ words_of c → r * w ≤ length ws
+    met_fits ew = omega (arith, body_fits ws 0 r c met.inside ew)
 
     pub going_on : {n : ℕ} → n ≡ body_words r c → Going ks' rs' cs' (drop n ws)
     going_on {n} en = record { shapes = step.1; words_fit = omega (arith, count, length-drop n ws); fit = fit_drop n ws o.fit }
@@ -185,6 +220,19 @@ module _ {ks rs cs ks' rs' cs' : List ℕ} {k r c : ℕ} (t : Turn k r c ks rs c
       ∙ ap (λ (x : List ℕ). splice p (H ++ x) out) (ap (λ (m : ℕ). contents_of (q + 8 * m) (given ks' rs' cs' (drop (body_words r c) ws))) (sym en) ∙ contents_any (q + 8 * n) ks' rs' cs' (drop (body_words r c) ws) ws)
       ∙ splice_append p H T out l
       ∙ ap₂ (λ (x : ℕ) (y : List ℕ). splice (p + x) T y) (length_head k r c q) (sym eo)
+
+-- ---- before the first turn
+
+module _ (ks rs cs ws out : List ℕ) (q : ℕ) where
+  pub contents_start : splice 2 (contents_of q (given ks rs cs ws)) out ≡ splice (2 + 10 * 0) (contents_of (q + 8 * 0) (given ks rs cs ws)) out
+  contents_start =
+      let z : q ≡ q + 8 * 0 = omega arith in
+      ap (λ (x : ℕ). splice 2 (contents_of x (given ks rs cs ws)) out) z
+
+  pub bodies_start : splice q (bodies_of (given ks rs cs ws)) out ≡ splice (q + 8 * 0) (bodies_of (given ks rs cs ws)) out
+  bodies_start =
+      let z : q ≡ q + 8 * 0 = omega arith in
+      ap (λ (x : ℕ). splice x (bodies_of (given ks rs cs ws)) out) z
 
 -- ---- after the last turn
 

@@ -12,18 +12,26 @@ use Rattle.gf2.proofs.Space.{same_narrow}
 use Rattle.words.specs.Words.{value, words_of, rows_of, Clean}
 use Rattle.images.specs.ReadOff.{unknown_block}
 use Rattle.std.specs.Prelude.{Result, Ok, Err}
+use Rattle.refusals.specs.declared.Refusal.{Refusal}
 use Rattle.refusals.specs.declared.Refusal.TheVariants as refusal
 use Rattle.refusals.specs.declared.Unfit.{Unfit}
 use Rattle.refusals.specs.Checks.{SolvingPasses, ReductionPasses}
 use Rattle.engine.specs.declared.Eliminated.{Eliminated}
 use Rattle.engine.specs.Core.{ReducedTo, TwoSlices}
 use Rattle.matrix.specs.Calls.{TableCleared}
-use Rattle.matrix.proofs.Calls.{told, told_answer, eliminated}
+use Rattle.matrix.specs.declared.Answer.{Answer}
+use Rattle.matrix.proofs.Calls.{told, told_answer, eliminated, taken}
+use Rattle.readoff.specs.declared.Unsolved.{Unsolved}
 use Rattle.readoff.specs.declared.Unsolved.TheVariants as unsolved
-use Rattle.readoff.specs.ReadOff.{Shown, BlocksRead}
+use Rattle.readoff.specs.ReadOff.{Blocks, Shown, BlocksRead}
 use Rattle.readoff.proofs.Clean.{image_rows}
 use Rattle.packets.specs.Solving.{Solving}
 use Rattle.packets.proofs.Images.{unmet, solved}
+
+module _ (rows columns n k : ℕ) (m image marks room : List ℕ) (passes : SolvingPasses rows columns n k m (length image) (length marks) (length room)) where
+  -- what passes for solving passes for the reduction
+  reducible : ReductionPasses rows columns k m (length room)
+  reducible = record { sized = passes.sized; window = passes.window; exact = passes.exact; roomy = passes.roomy; clean = passes.clean }
 
 module _ (rows columns n k : ℕ) (m image marks room : List ℕ) (passes : SolvingPasses rows columns n k m (length image) (length marks) (length room))
     (d : Result Eliminated Unfit) (e : Eliminated) (is : d ≡ Ok e) (list m' room' list' : List ℕ) (l : length list ≡ 512) (l' : length list' ≡ 512) (lm : length m' ≡ length m)
@@ -34,12 +42,8 @@ module _ (rows columns n k : ℕ) (m image marks room : List ℕ) (passes : Solv
   abbrev N : List ℕ
   N = rows_of (words_of columns) rows m'
 
-  -- what passes for solving passes for the reduction
-  reducible : ReductionPasses rows columns k m (length room)
-  reducible = record { sized = passes.sized; window = passes.window; exact = passes.exact; roomy = passes.roomy; clean = passes.clean }
-
   found : ReducedTo (additions k columns) L N e list' × TableCleared columns k room room'
-  found = eliminated rows columns k m room reducible d e list m' room' list' l is t
+  found = eliminated rows columns k m room (reducible rows columns n k m image marks room passes) d e list m' room' list' l is t
 
   payload_end : columns ≡ n + (columns - n)
   payload_end = omega (arith, passes.parted.payload)
@@ -79,3 +83,36 @@ module _ (rows columns n k : ℕ) (m image marks room : List ℕ) (passes : Solv
         },
         found.1,
       )
+
+-- what is read tells the answer
+abbrev pub answer_for : Result Eliminated Unfit → List ℕ → Result ℕ Unsolved → Result Answer Refusal
+answer_for (Ok e) list (Ok x) = Ok (told x e list)
+answer_for (Ok e) list (Err s) = Err refusal.Contradictory
+answer_for (Err u) list s = Err refusal.Contradictory
+
+module _ (rows columns n k : ℕ) (m image marks room : List ℕ) (passes : SolvingPasses rows columns n k m (length image) (length marks) (length room))
+    (d : Result Eliminated Unfit) (list m' room' list' : List ℕ) (l : length list ≡ 512) (l' : length list' ≡ 512) (lm : length m' ≡ length m)
+    (t : TwoSlices d rows columns k m room list m' room' list') where
+  module _ (unknown : List ℕ) (none : value unknown ≡ unknown_block) (wide : 16 ≤ length unknown) where
+    blocks : Blocks rows columns n m' (length unknown) (length image) (length marks)
+    blocks = record {
+      packets = record { matrix = record { wide = passes.sized.wide; held = omega (arith, passes.exact) }; blocks = omega (arith, passes.parted.payload) };
+      filled = omega (arith, passes.sized.wide);
+      fitting = passes.fitting;
+      marked = passes.marked;
+    }
+
+    module _ (image' marks' : List ℕ) (r : Result Answer Refusal) where
+      abbrev Ends : Type 0
+      Ends = Solving unknown_block (additions k columns) rows columns n m image marks r m' image' marks' × TableCleared columns k room room'
+
+      ended : (e : Eliminated) → d ≡ Ok e → (s : Result ℕ Unsolved) → BlocksRead s rows columns n m' unknown image marks image' marks' → r ≡ answer_for (Ok e) list' s → Ends
+      ended e is (Ok x) s a = rw a (known rows columns n k m image marks room passes d e is list m' room' list' l l' lm t unknown none wide image' marks' x s)
+      ended e is (Err unsolved.Contradictory) s a = rw a (refuted rows columns n k m image marks room passes d e is list m' room' list' l l' lm t unknown none wide image' marks' s)
+      ended e is (Err unsolved.Unfit) s a = absurd (s.0 blocks)
+
+      -- whatever is read, the answer is the one that is promised
+      pub solved_whole : (s : Result ℕ Unsolved) → BlocksRead s rows columns n m' unknown image marks image' marks' → r ≡ answer_for d list' s → Ends
+      solved_whole s h a =
+          let took = taken rows columns k m room (reducible rows columns n k m image marks room passes) d list m' room' list' l t in
+          ended took.0 took.1 s h (subst (λ (x : Result Eliminated Unfit). r ≡ answer_for x list' s) took.1 a)

@@ -88,3 +88,16 @@ flat_laid v (suc n) f (suc j) h =
     sym (part_rest v j (first_words v (f 0) ++ flat v (tabulate n (λ i. f (suc i)))))
     ∙ ap (part (j * v) v) (drop_at (first_words v (f 0)) (flat v (tabulate n (λ i. f (suc i)))) v (length_first v (f 0)))
     ∙ flat_laid v n (λ i. f (suc i)) j (omega arith)
+
+-- the words of one row, in a buffer of as many
+pub whole : (v u : ℕ) (d : List ℕ) → length d ≡ v → paste d 0 (first_words v u) v ≡ first_words v u
+whole v u d l =
+    ext_get_or 0 (paste d 0 (first_words v u) v) (first_words v u) (size₀ ∙ l ∙ sym (length_first v u)) (λ j k. at j (omega (arith, size₀)))
+  where
+    size₀ : length (paste d 0 (first_words v u) v) ≡ length d
+    size₀ = length-paste d 0 (first_words v u) v (omega arith) (omega (arith, length_first v u))
+
+    at : (j : ℕ) → j < v → get_or (paste d 0 (first_words v u) v) j 0 ≡ get_or (first_words v u) j 0
+    at j k =
+        ap (λ (i : ℕ). get_or (paste d 0 (first_words v u) v) i 0) (omega arith)
+        ∙ paste_in d 0 (first_words v u) v (omega arith) (omega (arith, length_first v u)) j k

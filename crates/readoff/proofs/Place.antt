@@ -1,15 +1,21 @@
 -- The first row whose pivot stands in given columns, by its number.
-use mathlib.Core.Path.{◌≡◌, refl, sym, subst}
+use mathlib.Core.Path.{◌≡◌, refl, sym, ap, ◌∙◌, subst}
 use mathlib.Core.Logic.{◌⊎◌, inl, inr}
 use mathlib.Core.Bool.{true, false, not}
 use mathlib.Core.List.{List, [], ◌∷◌}
-use Prim.Native.Nat.{ℕ, zero, suc}
+use Prim.Native.Nat.{ℕ, zero, suc, ◌+◌, ◌*◌, ◌^◌, ◌<◌, ◌≤◌}
+use native.Mathlib.Decide.{dec_lt}
 use native.Mathlib.Omega.{arith}
 use borrow.Author.Tests.{ne_eqb}
 use lib.Dec.{T, eqb}
+use lib.ListN.{length}
 use Rattle.std.specs.Prelude.{Option, None, Some, is_some}
-use Rattle.gf2.specs.Rows.{row}
+use Rattle.gf2.specs.Rows.{row, part}
 use Rattle.gf2.proofs.Pivot.{pivot_not_zero}
+use Rattle.words.specs.Words.{Fit, value}
+use Rattle.words.proofs.Parts.{length_part}
+use Rattle.words.proofs.Rows.{row_end}
+use Rattle.words.proofs.Value.{value_lt, part_fits}
 use Rattle.images.specs.ReadOff.{inside, pivot_row, has_pivot}
 use Rattle.images.proofs.Found.{Inside, inside_cases}
 use Rattle.readoff.specs.Steps.{FirstIn}
@@ -41,3 +47,23 @@ module _ (a e : ℕ) (R : List ℕ) where
 
   pub found_some : (i : ℕ) → FirstIn a e R (Some i) → T (has_pivot a e R)
   found_some i f = subst T (place_found a e R (Some i) f) tt
+
+-- ---- row i of a buffer
+
+pub part_narrow : (m : List ℕ) (at w : ℕ) → Fit m → at + w ≤ length m → value (part at w m) < 2 ^ (64 * w)
+part_narrow m at w fit h = subst (λ (x : ℕ). value (part at w m) < 2 ^ (64 * x)) (length_part at w m h) (value_lt (part at w m) (part_fits m at w fit))
+
+module _ (m : List ℕ) (w rows i : ℕ) (fit : Fit m) (hm : rows * w ≤ length m) (hi : i < rows) where
+  pub row_narrow : value (part (i * w) w m) < 2 ^ (64 * w)
+  row_narrow = part_narrow m (i * w) w fit (row_end m w rows i hm hi)
+
+-- ---- the search
+
+pub passed : (a e : ℕ) (R : List ℕ) (i : ℕ) → ((j : ℕ) → j < i → inside a e (row R j) ≡ false) → inside a e (row R i) ≡ false → (j : ℕ) → j < i + 1 → inside a e (row R j) ≡ false
+passed a e R i before here j h = go (dec_lt j i)
+  where
+    go : Dec (j < i) → inside a e (row R j) ≡ false
+    go (yes l) = before j l
+    go (no l) =
+        let s : j ≡ i = omega arith in
+        ap (λ (k : ℕ). inside a e (row R k)) s ∙ here

@@ -3,24 +3,26 @@ use mathlib.Core.Path.{◌≡◌, refl, sym, ap, ap₂, ◌∙◌}
 use mathlib.Core.Logic.{◌≢◌}
 use mathlib.Core.Bool.{Bool, true, false, cond}
 use mathlib.Core.List.{List, [], ◌∷◌}
-use Prim.Native.Nat.{ℕ, suc, ◌+◌, ◌*◌, ◌/◌, ◌%◌, ◌^◌, ◌≤◌, ◌<◌}
+use Prim.Native.Nat.{ℕ, suc, ◌+◌, ◌-◌, ◌*◌, ◌/◌, ◌%◌, ◌^◌, ◌≤◌, ◌<◌}
 use native.Mathlib.Decide.{ℕ_discrete, dec_lt}
 use native.Mathlib.Nat.{zero-mod}
 use native.Mathlib.Omega.{arith}
 use borrow.Author.Tests.{ne_eqb}
 use lib.Dec.{eqb}
-use lib.ListN.{length, get_or, take, set, length-set, get_or-eq_default}
+use lib.ListN.{length, get_or, take, drop, set, length-set, get_or-eq_default, drop_of_length-le}
 use lib.Pow.{pow_pos}
-use lib.Seq.{paste, length-take-le, get_or-set_same, get_or-set_other}
+use lib.Seq.{paste, length-take-le, get_or-set_same, get_or-set_other, drop-cons}
 use Rattle.std.specs.Prelude.{count_by}
 use Rattle.std.proofs.lemmas.Bool.Decides.{nat_tests}
 use Rattle.std.proofs.lemmas.List.Sums.{sum_by-cons}
 use Rattle.gf2.specs.Rows.{part, one_if, tabulate}
 use Rattle.gf2.proofs.Products.{tabulate_row, tabulate_length, is_tabulate}
-use Rattle.words.specs.Words.{Fit, value, first_words}
-use Rattle.words.proofs.First.{words_first, take_first}
+use Rattle.words.specs.Words.{Fit, value, first_words, rows_of}
+use Rattle.words.proofs.First.{words_first, take_first, length_first, get_or_first, value_word}
 use Rattle.words.proofs.Flat.{length_flat}
 use Rattle.words.proofs.Value.{fit_take}
+use Rattle.words.proofs.Parts.{paste_more}
+use Rattle.words.proofs.Rows.{length_rows, get_or_rows}
 use Rattle.images.specs.ReadOff.{inside, pivot_row, known, content, shown, mark, marked}
 use Rattle.readoff.specs.ReadOff.{Shown}
 use Rattle.readoff.proofs.Laid.{Laid, stored, laid_flat, flat_laid}
@@ -75,6 +77,13 @@ unfolding shown mark known pivot_row
 none_said unknown n j =
     let e : eqb (0 % 2 ^ n) (2 ^ j) ≡ false = ne_eqb (0 % 2 ^ n) (2 ^ j) (omega (arith, pow_pos j, zero-mod (2 ^ n))) in
     rw e (refl, refl)
+
+-- a turn of the loop that copies the words of an unknown block
+pub unknown_turn : (words d₀ d : List ℕ) (a v l : ℕ) → Fit words → d ≡ paste d₀ a (first_words v (value words)) l → l < v → a + v ≤ length d₀
+    → set d (a + l) (get_or words l 0) ≡ paste d₀ a (first_words v (value words)) (l + 1)
+unknown_turn words d₀ d a v l fit e h b =
+    paste_more d₀ d a (first_words v (value words)) l (get_or words l 0) e (omega arith) (omega (arith, length_first v (value words)))
+    (value_word words l fit ∙ sym (get_or_first v (value words) l h))
 
 -- the first j blocks are unknown
 pub record Unknown (unknown v : ℕ) (image marks : List ℕ) (j : ℕ) : Type 0 where
@@ -159,6 +168,22 @@ module _ (unknown n v r : ℕ) (R image marks : List ℕ) (s : ShownAt unknown n
         mark_at i h (no ne) =
             ap (λ (M : List ℕ). get_or M i 0) em ∙ get_or-set_other marks j i y 0 ne ∙ s.mark_is i h ∙ sym (silent_mark unknown n r R i (other i ne))
 
+-- ---- from the last row to the first
+
+module _ (unknown n v w rows : ℕ) (m : List ℕ) where
+  pub rows_none : (image marks : List ℕ) → Shown unknown n v [] image marks → Shown unknown n v (drop rows (rows_of w rows m)) image marks
+  rows_none image marks s = rw (drop_of_length-le (rows_of w rows m) {i = rows} (omega (arith, length_rows w rows m))) s
+
+  pub rows_more : (i : ℕ) (image marks image' marks' : List ℕ) → 0 < i → i ≤ rows
+      → ((R : List ℕ) → Shown unknown n v R image marks → Shown unknown n v (value (part ((i - 1) * w) w m) ∷ R) image' marks')
+      → Shown unknown n v (drop i (rows_of w rows m)) image marks → Shown unknown n v (drop (i - 1) (rows_of w rows m)) image' marks'
+  rows_more i image marks image' marks' pos h step s =
+      let e : suc (i - 1) ≡ i = omega arith in
+      let d : drop (i - 1) (rows_of w rows m) ≡ value (part ((i - 1) * w) w m) ∷ drop i (rows_of w rows m) =
+      drop-cons (rows_of w rows m) (i - 1) 0 (omega (arith, length_rows w rows m))
+      ∙ ap₂ (λ (x : ℕ) (k : ℕ). x ∷ drop k (rows_of w rows m)) (get_or_rows w rows m (i - 1) (omega arith)) e in
+      rw d (step (drop i (rows_of w rows m)) s)
+
 -- ---- the count
 
 pub marks_small : (unknown n v : ℕ) (R image marks : List ℕ) → Shown unknown n v R image marks → (j : ℕ) → get_or marks j 0 ≤ 1
@@ -172,6 +197,20 @@ marks_small unknown n v R image marks s j = go (dec_lt j n)
     go : Dec (j < n) → get_or marks j 0 ≤ 1
     go (yes l) = omega (arith, (shown_at unknown n v R image marks s).mark_is j l, one (known n R j))
     go (no l) = omega (arith, get_or-eq_default marks 0 {n = j} (omega (arith, (shown_at unknown n v R image marks s).size)))
+
+module _ (xs : List ℕ) where
+  pub marked_turn : (sum j : ℕ) → sum + marked (drop j xs) ≡ marked xs → j < length xs → sum + get_or xs j 0 + marked (drop (j + 1) xs) ≡ marked xs
+  unfolding marked
+  marked_turn sum j e h =
+      let s : marked (drop j xs) ≡ get_or xs j 0 + marked (drop (suc j) xs) = ap marked (drop-cons xs j 0 h) in
+      let n : j + 1 ≡ suc j = omega arith in
+      ap (λ (k : ℕ). sum + get_or xs j 0 + marked (drop k xs)) n ∙ omega arith
+
+  pub marked_end : (sum j : ℕ) → sum + marked (drop j xs) ≡ marked xs → length xs ≤ j → sum ≡ marked xs
+  unfolding marked
+  marked_end sum j e h =
+      let z : marked (drop j xs) ≡ 0 = ap marked (drop_of_length-le xs {i = j} h) in
+      omega arith
 
 bit_is : (x : ℕ) → x ≤ 1 → cond (eqb x 1) 1 0 ≡ x
 bit_is x h = grind (arith, nat_tests)

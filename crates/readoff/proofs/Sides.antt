@@ -2,17 +2,21 @@
 use mathlib.Core.Path.{◌≡◌, refl, sym, ap, ◌∙◌}
 use mathlib.Core.Bool.{Bool, true, false}
 use mathlib.Core.List.{List}
+use mathlib.Core.Logic.{◌≢◌}
 use Prim.Native.Nat.{ℕ, ◌+◌, ◌*◌, ◌/◌, ◌%◌, ◌^◌, ◌<◌}
 use native.Mathlib.Omega.{arith}
-use lib.Dec.{T}
+use native.Mathlib.Decide.{dec_lt}
+use lib.Dec.{T, eqb}
 use lib.ListN.{length, length-map}
 use lib.Seq.{paste}
-use Rattle.gf2.specs.Rows.{row}
+use borrow.Author.Tests.{eqb-true, eqb-false}
+use Rattle.gf2.specs.Rows.{row, part}
 use Rattle.gf2.specs.Inverse.{left_of, right_of, begins_with_identity}
 use Rattle.gf2.proofs.Inverse.{begins_true, left_row, right_row}
 use Rattle.gf2.proofs.Products.{tabulate_row, is_tabulate}
-use Rattle.words.specs.Words.{first_words, flat}
+use Rattle.words.specs.Words.{first_words, flat, value, rows_of}
 use Rattle.words.proofs.Ranges.{EachBelow}
+use Rattle.words.proofs.Rows.{get_or_rows}
 use Rattle.readoff.proofs.Laid.{Laid, stored, laid_flat}
 
 -- ---- the identity
@@ -34,6 +38,28 @@ units_begin R false h =
     let n : ℕ = length R in
     false_is (begins_with_identity n R)
     (λ t. h.2 (sym (left_row n R h.0) ∙ ap (λ (M : List ℕ). row M h.0) ((begins_true n R).0 t) ∙ tabulate_row n (λ i. 2 ^ i) h.0 h.1))
+
+module _ (n : ℕ) (R : List ℕ) where
+  begins_units : (i : ℕ) → i < n → row R i % 2 ^ n ≢ 2 ^ i → T (begins_with_identity n R) → ⊥
+  begins_units i l ne t = ne (sym (left_row n R i) ∙ ap (λ (M : List ℕ). row M i) ((begins_true n R).0 t) ∙ tabulate_row n (λ i. 2 ^ i) i l)
+
+module _ (n w : ℕ) (m : List ℕ) (i : ℕ) (hi : i < n) where
+  pub unit_fails : eqb (value (part (i * w) w m) % 2 ^ n) (2 ^ i) ≡ false → false ≡ begins_with_identity n (rows_of w n m)
+  unit_fails e =
+      let ne : row (rows_of w n m) i % 2 ^ n ≢ 2 ^ i =
+      λ s. eqb-false (value (part (i * w) w m) % 2 ^ n) (2 ^ i) e (ap (λ (v : ℕ). v % 2 ^ n) (sym (get_or_rows w n m i hi)) ∙ s) in
+      false_is (begins_with_identity n (rows_of w n m)) (begins_units n (rows_of w n m) i hi ne)
+
+  pub unit_turn : ((j : ℕ) → j < i → row (rows_of w n m) j % 2 ^ n ≡ 2 ^ j) → eqb (value (part (i * w) w m) % 2 ^ n) (2 ^ i) ≡ true
+      → (j : ℕ) → j < i + 1 → row (rows_of w n m) j % 2 ^ n ≡ 2 ^ j
+  unit_turn done e j h = go (dec_lt j i)
+    where
+      go : Dec (j < i) → row (rows_of w n m) j % 2 ^ n ≡ 2 ^ j
+      go (yes l) = done j l
+      go (no l) =
+          let s : j ≡ i = omega arith in
+          ap (λ (k : ℕ). row (rows_of w n m) k % 2 ^ n) s ∙ ap (λ (v : ℕ). v % 2 ^ n) (get_or_rows w n m i hi)
+          ∙ eqb-true (value (part (i * w) w m) % 2 ^ n) (2 ^ i) e ∙ ap (λ (k : ℕ). 2 ^ k) (sym s)
 
 -- ---- row i of the right half
 

@@ -19,13 +19,15 @@ use Rattle.gf2.proofs.Rref.{rref_form}
 use Rattle.gf2.proofs.Pivots.{rank_used, rank_le}
 use Rattle.words.specs.Words.{words_of, rows_of, flat}
 use Rattle.words.proofs.Flat.{length_flat, rows_first}
-use Rattle.std.specs.Prelude.{Result, Ok}
+use Rattle.std.specs.Prelude.{Result, Ok, Err}
+use Rattle.refusals.specs.declared.Refusal.{Refusal}
 use Rattle.bundle.specs.Bundle.{Entry, body_words, count_of, both_kinds, bundle_checks, entry_at, meaning}
 use Rattle.bundle.specs.Answers.{Lookup, find}
 use Rattle.bundle.proofs.Meaning.{find_entry}
 use Rattle.desk.specs.declared.Figures.{Figures}
 use Rattle.desk.specs.declared.NotReduced.{NotReduced}
 use Rattle.desk.specs.Desk.{window_columns, table_rows, reduced_of, room_for, ReducedBy, ReducedFound, ReducedEntry}
+use Rattle.desk.specs.declared.NotReduced.TheVariants.{Refused, Unfit}
 use Rattle.desk.proofs.Sound.{Sound, found_sound}
 use Rattle.text.specs.Put.{Written}
 use Rattle.text.specs.declared.Page.{Page}
@@ -83,11 +85,18 @@ entry_shown i b words room t words' room' d h hw hr r =
     shown (entry_at i b) s words words' t q.0 q.1
 
 -- the rows that are then shown are not zero
-not_zero : (e : Entry) (t : Result Figures NotReduced) (words' : List ℕ) → Shown e t words' → (i : ℕ) → i < rank (rref e.matrix) → row (rows_of (words_of e.columns) (rank (rref e.matrix)) words') i ≢ 0
+pub not_zero : (e : Entry) (t : Result Figures NotReduced) (words' : List ℕ) → Shown e t words' → (i : ℕ) → i < rank (rref e.matrix) → row (rows_of (words_of e.columns) (rank (rref e.matrix)) words') i ≢ 0
 not_zero e t words' s i h z =
     rank_used (rref e.matrix) s.reduced i h (sym (get_or-take (rank (rref e.matrix)) (rref e.matrix) i 0 h) ∙ ap (λ (L : List ℕ). row L i) (sym s.first) ∙ z)
 
 -- ---- the answer taken apart
+
+module _ (e : Entry) (t : Result Figures NotReduced) (words' : List ℕ) (s : Shown e t words') where
+  pub found_not_refused : (x : Refusal) → t ≡ Err (Refused x) → ⊥
+  found_not_refused x q = cc (s.says)
+
+  pub found_not_unfit : t ≡ Err Unfit → ⊥
+  found_not_unfit q = cc (s.says)
 
 module _ (e : Entry) (t : Result Figures NotReduced) (words' : List ℕ) (s : Shown e t words') (f : Figures) (q : t ≡ Ok f) where
   same : reduced_of e ≡ f

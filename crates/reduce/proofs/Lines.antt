@@ -3,9 +3,10 @@ use mathlib.Core.Path.{◌≡◌, refl, sym, ap, ap₂, ◌∙◌, subst}
 use mathlib.Core.Logic.{◌≢◌}
 use mathlib.Core.Bool.{Bool, true, false, cond}
 use mathlib.Core.List.{List, [], ◌∷◌, ◌++◌, append_assoc, append-nil}
-use Prim.Native.Nat.{ℕ, suc, ◌+◌, ◌-◌, ◌*◌, ◌<◌}
+use Prim.Native.Nat.{ℕ, suc, ◌+◌, ◌-◌, ◌*◌, ◌<◌, ◌≤◌}
 use native.Mathlib.Numerals.{add-one}
 use native.Mathlib.Omega.{arith}
+use native.Mathlib.Nat.{le_trans}
 use lib.Dec.{eqb}
 use lib.ListN.{length, take, drop, take-append-drop}
 use lib.Seq.{take-suc, get_or-drop}
@@ -14,7 +15,7 @@ use Rattle.gf2.specs.Rows.{row}
 use Rattle.gf2.specs.Reduced.{Reduced, rank}
 use Rattle.gf2.proofs.Pivots.{rank_rest}
 use Rattle.words.specs.Words.{value, words_of, rows_of}
-use Rattle.words.proofs.Rows.{length_rows, get_or_rows}
+use Rattle.words.proofs.Rows.{length_rows, get_or_rows, row_ends}
 use Rattle.text.specs.Text.{newline, bits}
 use Rattle.reduce.specs.Report.{row_lines}
 
@@ -52,6 +53,10 @@ lines_whole columns R red =
     ∙ lines_append columns (take (rank R) R) (drop (rank R) R)
     ∙ ap (λ (l : List ℕ). row_lines columns (take (rank R) R) ++ l) rest
     ∙ append-nil (row_lines columns (take (rank R) R)))
+
+-- row i of n rows ends inside the words
+pub row_inside : (i n w W len : ℕ) → i < n → w ≡ W → n * W ≤ len → i * w + w ≤ len
+row_inside i n w W len h e l = subst (λ (x : ℕ). i * x + x ≤ len) (sym e) (le_trans (row_ends i n W h) l)
 
 -- a row more of the rows that words hold
 pub words_more : (columns i n w a e : ℕ) (m : List ℕ) → i < n → w ≡ words_of columns → a ≡ i * w → e ≡ a + w

@@ -1,5 +1,5 @@
 -- Checks in order, whatever they are: a check more is a name more, wherever it stands.
-use mathlib.Core.Path.{◌≡◌, refl, ap₂}
+use mathlib.Core.Path.{◌≡◌, refl, sym, ap₂, ◌∙◌, subst}
 use mathlib.Core.List.{List, [], ◌∷◌}
 use Rattle.refusals.specs.declared.Refusal.{Refusal}
 use Rattle.std.specs.Prelude.{Ok, Err}
@@ -54,6 +54,20 @@ module _ {A : Type 0} where
   passed os f e = passed_after (Ok tt) os f e
 
 -- ---- a call's promise, by the outcome of its checks
+
+-- no two outcomes at once
+pub one_refusal : {a b : Refusal} → ◌≡◌ {A = Outcome} (Err a) (Err b) → a ≡ b
+one_refusal e = cc
+
+module _ {refused : Refusal → Type 0} {follows : Type 0} {checks : Outcome} (o : Outcome) (e : o ≡ checks) where
+  pub promise_stopped : (r : Refusal) → o ≡ Err r → refused r → Promised checks refused follows
+  promise_stopped r f a = record {
+    stopped = λ q g. subst refused (one_refusal (sym f ∙ e ∙ g)) a;
+    past = λ g. absurd (refused_not (sym f ∙ e ∙ g));
+  }
+
+  pub promise_past : o ≡ Ok tt → follows → Promised checks refused follows
+  promise_past f a = record { stopped = λ q g. absurd (refused_not (sym g ∙ sym e ∙ f)); past = λ g. a }
 
 -- refused by a check, or past them
 module _ {refused : Refusal → Type 0} {follows A : Type 0} {checks : Outcome} (p : Promised checks refused follows) where

@@ -1,3 +1,4 @@
 pub mod Chain
 pub mod Passed
+pub mod Division
 pub mod Never

@@ -1,5 +1,5 @@
 -- What the checks say: they refuse nothing exactly if each of their conditions fails.
-use mathlib.Core.Path.{◌≡◌, refl, sym, ap, ◌∙◌}
+use mathlib.Core.Path.{◌≡◌, refl, sym, ap, ◌∙◌, subst}
 use mathlib.Core.Bool.{Bool, true, false, not}
 use mathlib.Core.List.{List}
 use Prim.Native.Nat.{ℕ, ◌+◌, ◌-◌, ◌*◌, ◌^◌, ◌≤◌, ◌<◌}
@@ -14,7 +14,7 @@ use Rattle.words.proofs.Padding.{holds_exactly}
 use Rattle.refusals.specs.declared.Refusal.{Refusal}
 use Rattle.refusals.specs.declared.Refusal.TheVariants.{TooManyRows, BadColumns, BadK, WrongLength, DirtyPadding, ShortRoom, BadBlocks, NotSquare, NoInverse, Contradictory, TooWide, NotBelow, WrongBuffer, BundleSize, EntryCount, ContentsCut, BadKind, BadShape, WrongOffset, BodyPast, BytesLeft, ShortOutput, BundleOver}
 use Rattle.std.specs.Prelude.{Ok, Err}
-use Rattle.refusals.specs.Outcome.{Outcome, number_of, outcome_number, refuse_if}
+use Rattle.refusals.specs.Outcome.{Outcome, number_of, outcome_number, refuse_if, Decides, ◌and_then◌}
 use Rattle.refusals.specs.Checks.{too_many_rows, bad_columns, size_checks, bad_k, wrong_length, short_room, not_below, dirty_padding, bad_blocks, not_square, too_wide, wrong_buffer, wrong_marks, view_order, view_checks, reduction_order, reduction_checks, inverse_shapes, inverse_order, inverse_checks, solving_shapes, solving_order, solving_checks, contradiction_shapes, contradiction_order, contradiction_checks, Sized, Window, Parted, ViewPasses, ReductionPasses, InversePasses, SolvingPasses, ContradictionPasses}
 use Rattle.refusals.proofs.Chain.{Passes, passing, passed}
 pub use Rattle.refusals.proofs.Chain.{refused_not, then_done, done_then}
@@ -59,6 +59,22 @@ if_done false r e = refl
 
 pub done_if : {b : Bool} (r : Refusal) → b ≡ false → Passes (refuse_if b r)
 done_if r e = ap (λ (b : Bool). refuse_if b r) e
+
+-- two checks more, behind those whose outcome is known
+module _ {c : Outcome} (o p q : Outcome) (e : o ≡ c) where
+  pub stays_refused : {r : Refusal} → o ≡ Err r → ◌≡◌ {A = Outcome} (Err r) (c and_then p and_then q)
+  stays_refused f = sym (ap (λ (x : Outcome). x and_then p and_then q) (sym e ∙ f))
+
+  pub goes_on : {x : Outcome} → o ≡ Ok tt → x ≡ p and_then q → x ≡ c and_then p and_then q
+  goes_on f g = g ∙ sym (ap (λ (x : Outcome). x and_then p and_then q) (sym e ∙ f))
+
+-- what a test decides
+module _ {A : Type 0} (b : Bool) (d : Decides b A) where
+  pub yes_so : b ≡ true → A
+  yes_so e = subst (λ (x : Bool). Decides x A) e d
+
+  pub not_so : b ≡ false → A → ⊥
+  not_so e = subst (λ (x : Bool). Decides x A) e d
 
 pub pos : {n : ℕ} → (n ≡ 0 → ⊥) → 0 < n
 pos h = omega arith

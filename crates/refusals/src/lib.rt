@@ -41,6 +41,8 @@ pub struct Unfit;
 
 // what a check refuses is such a shape
 impl From<Refusal> for Unfit {
+    ghost from_gives = { λ _ u. u ≡ record {} };
+
     fn from(_: Refusal) -> Unfit {
         Unfit
     }

@@ -22,8 +22,8 @@ ReadFull old new (Err e) buffer = ConsumesFront old new buffer
 abbrev pub AppendsFront : Option (List ℕ) → Option (List ℕ) → List ℕ → Type 0
 AppendsFront old new bytes = (n : ℕ) × (n ≤ length bytes) × Appends old new (take n bytes)
 
--- a step tried again and again, from one state to the next: each try fails, but for the last one, which answers
+-- a step tried again and again, from one state to the next: each try fails, no more than so many, but for the last one, which answers
 -- (no public promise cites this)
-abbrev pub Tried : {F : Type 0} → (F → Result ℕ Error → F → Type 0) → F → Result ℕ Error → F → Type 0
-Tried {F} try begun answer ended =
-    (errors : List Error) × (last : F) × FoldsTo (λ f e f'. try f (Err e) f') begun errors last × try last answer ended
+abbrev pub Tried : {F : Type 0} → ℕ → (F → Result ℕ Error → F → Type 0) → F → Result ℕ Error → F → Type 0
+Tried {F} most try begun answer ended =
+    (errors : List Error) × (last : F) × (length errors ≤ most) × FoldsTo (λ f e f'. try f (Err e) f') begun errors last × try last answer ended

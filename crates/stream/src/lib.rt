@@ -18,9 +18,9 @@ fn passes(error: &io::Error) -> bool {
 // one step, tried again while its error passes by itself; others run meanwhile
 fn patiently<F: FnMut() -> io::Result<usize>>(step: &mut F) -> io::Result<usize>
     requires { F.IsAlwaysCallable step.old }
-    ensures { Tried F.step step.old result step.new }
+    ensures { Tried 4000000 F.step step.old result step.new }
 {
-    for _ in 0..TRIES {
+    for _tries in 0..TRIES {
         match step() {
             Err(e) if passes(&e) => thread::yield_now(),
             result => return result,

@@ -8,8 +8,8 @@ use native.Mathlib.Nat.{div-one}
 use native.Mathlib.Numerals.{add-one}
 use native.Mathlib.Omega.{arith}
 use lib.Pow.{shr-shr}
-use lib.ListN.{length, take, drop, set, length-append, length-take, length-drop, length-set, take-append-drop, drop_of_length-le}
-use lib.Seq.{take-nil, take_all, take-suc-set, drop-set-lt, drop-drop, append_snoc}
+use lib.ListN.{length, get_or, take, drop, set, length-append, length-take, length-drop, length-set, take-append-drop, drop_of_length-le}
+use lib.Seq.{take-nil, take_all, take-suc-set, drop-set-lt, drop-drop, append_snoc, take-suc}
 use Rattle.std.proofs.lemmas.Bool.{cases_lt}
 use borrow.Rule.Slice.PartMut.{put_mid}
 use Rattle.gf2.specs.Rows.{bit}
@@ -113,6 +113,10 @@ put_all s out out' r a h =
     let ends : 0 + length s ≡ r = omega arith in
     (e, a.holds ∙ ap₂ (λ (l : List ℕ) (k : ℕ). l ++ drop k out) whole ends)
 
+-- a buffer is as long as before
+pub put_length : {p r n : ℕ} {s out out' : List ℕ} → Put p s out r out' → length out ≡ n → length out' ≡ n
+put_length {p} {r} {n} {s} {out} {out'} a e = ap length a.holds ∙ length_over p s out ∙ e
+
 pub put_none : (p r : ℕ) (out : List ℕ) → r ≡ min p (length out) → Put p [] out r out
 put_none p r out e = record { ends = omega arith; holds = sym (over_none p out) }
 
@@ -121,6 +125,15 @@ put_byte p x out h = record { ends = omega arith; holds = set_byte p x out h }
 
 pub put_full : (p x : ℕ) (out : List ℕ) → length out ≤ p → Put p (x ∷ []) out (length out) out
 put_full p x out h = record { ends = omega arith; holds = sym (over_full p (x ∷ []) out h) }
+
+-- a byte more of a text
+pub put_more : {p i q q' x : ℕ} (s : List ℕ) {out out' out'' : List ℕ} → i < length s → x ≡ get_or s i 0 → Put p (take i s) out q out'
+    → Put q (x ∷ []) out' q' out'' → Put p (take (i + 1) s) out q' out''
+put_more {p} {i} {q} {q'} {x} s {out} {out'} {out''} h e a b =
+    subst (λ (t : List ℕ). Put p t out q' out'') (ap (λ (y : ℕ). take i s ++ (y ∷ [])) e ∙ sym (ap (λ (k : ℕ). take k s) (add-one i) ∙ take-suc s i 0 h)) (put_then a b)
+
+pub put_whole : {p i q : ℕ} (s : List ℕ) {out out' : List ℕ} → length s ≤ i → Put p (take i s) out q out' → Put p s out q out'
+put_whole {p} {i} {q} s {out} {out'} h a = subst (λ (t : List ℕ). Put p t out q out') (take_all i s h) a
 
 -- as much of a text as there is room for, copied to where it begins
 pub put_text : (p start n room : ℕ) (text out part : List ℕ) → start ≡ min p (length out) → n ≡ min (length text) (length out - start) → room ≡ n → part ≡ take n text
@@ -159,6 +172,11 @@ pub put_column : {p q q' x : ℕ} (c v : ℕ) {out out' out'' : List ℕ} → x 
     → Put q (x ∷ []) out' q' out'' → Put p (bits (c + 1) v) out q' out''
 put_column {p} {q} {q'} {x} c v {out} {out'} {out''} e a b =
     subst (λ (t : List ℕ). Put p t out q' out'') (ap (λ (y : ℕ). bits c v ++ (y ∷ [])) e ∙ sym (ap (λ (k : ℕ). bits k v) (add-one c) ∙ bits_more c v)) (put_then a b)
+
+pub put_columns : {p q c : ℕ} (columns v : ℕ) {out out' : List ℕ} → c ≤ columns → columns ≤ c → Put p (bits c v) out q out' → Put p (bits columns v) out q out'
+put_columns {p} {q} {c} columns v {out} {out'} l h a =
+    let e : c ≡ columns = omega arith in
+    subst (λ (k : ℕ). Put p (bits k v) out q out') e a
 
 -- ---- pages
 

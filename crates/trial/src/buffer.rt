@@ -48,9 +48,9 @@ impl<const N: usize> Matrix<N> {
         first(&mut self.buffer, end)
     }
 
-    // where the word with the bit in row i and column c stands
+    // where the word with the bit in row i and column c stands: nothing wraps, for all rows and columns here are few
     fn place(&self, i: usize, c: usize) -> usize {
-        words(i, self.columns).saturating_add(c / 64)
+        i.wrapping_mul(words(1, self.columns)).wrapping_add(c / 64)
     }
 
     pub(crate) fn bit(&self, i: usize, c: usize) -> bool {
@@ -58,12 +58,17 @@ impl<const N: usize> Matrix<N> {
         word >> (c % 64) & 1 == 1
     }
 
-    // changes the bit in row i and column c
-    pub(crate) fn toggle(&mut self, i: usize, c: usize) {
+    // adds that bit to the one in row i and column c
+    pub(crate) fn add(&mut self, i: usize, c: usize, bit: bool) {
         let place = self.place(i, c);
         if let Some(word) = self.buffer.get_mut(place) {
-            *word ^= 1 << (c % 64);
+            *word ^= u64::from(bit) << (c % 64);
         }
+    }
+
+    // changes the bit in row i and column c
+    pub(crate) fn toggle(&mut self, i: usize, c: usize) {
+        self.add(i, c, true);
     }
 
     // whether all of the buffer is as it began, all ones

@@ -18,10 +18,10 @@ pub(crate) fn free_row<const N: usize>(m: &Matrix<N>, rows: usize, n: usize) -> 
 
 // adds a row to another, from column c on
 fn add<const N: usize>(m: &mut Matrix<N>, from: usize, to: usize, c: usize) {
+    // by no branch: the bits are as good as drawn, and each other guess at one would be wrong
     for q in c..m.columns {
-        if m.bit(from, q) {
-            m.toggle(to, q);
-        }
+        let bit = m.bit(from, q);
+        m.add(to, q, bit);
     }
 }
 

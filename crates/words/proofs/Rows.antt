@@ -7,8 +7,8 @@ use native.Mathlib.Nat.{zero-add, zero-mul, suc-mul, suc-add, mul-le-mul_right, 
 use native.Mathlib.Decide.{dec_lt, ℕ_discrete}
 use native.Mathlib.Omega.{arith}
 use lib.Bits.{xor_zero_r}
-use lib.ListN.{length, get_or, take, drop, set, length-set, length-drop}
-use lib.Seq.{paste, ext_get_or, get_or-set_same, get_or-set_other, set-get_or, length-paste, length-take-le, take_all, take-nil, take-add, take-take, take-append-le, drop-append-le, drop-drop}
+use lib.ListN.{length, get_or, take, drop, set, length-set, length-drop, length-append}
+use lib.Seq.{paste, ext_get_or, get_or-set_same, get_or-set_other, set-get_or, length-paste, length-take-le, take_all, take-nil, take-add, take-take, take-append-le, drop-append-le, drop-drop, set-set}
 use Rattle.gf2.specs.Rows.{bit, ◌⊕◌, row, part, swapped, pick}
 use Rattle.gf2.proofs.Bits.{bit_lt}
 use Rattle.words.specs.Words.{words_of, Fit, value, rows_of, xors}
@@ -155,6 +155,15 @@ module _ (w n i : ℕ) (m r : List ℕ) (hi : i < n) (hm : n * w ≤ length m) (
   pub rest_paste : drop (n * w) (paste m (i * w) r w) ≡ drop (n * w) m
   rest_paste = drop_past m (i * w) r w (n * w) (row_ends i n w hi) (omega (arith, ends i hi)) (omega arith)
 
+-- words stored past the rows
+pub rows_past : (w n : ℕ) (m : List ℕ) (a : ℕ) (x : List ℕ) (len : ℕ) → n * w ≤ a → a + len ≤ length m → rows_of w n (paste m a x len) ≡ rows_of w n m
+rows_past w n m a x len h hm =
+    let la : length (take a m) ≡ a = length-take-le a m (omega arith) in
+    let front : take (n * w) (paste m a x len) ≡ take (n * w) m =
+    take-append-le (n * w) (take a m ++ take len x) (drop (a + len) m) (omega (arith, length-append (take a m) (take len x)))
+    ∙ take-append-le (n * w) (take a m) (take len x) (omega arith) ∙ take-take (n * w) a m h in
+    sym (rows_take w n (paste m a x len)) ∙ ap (rows_of w n) front ∙ rows_take w n m
+
 -- ---- sums of rows
 
 -- row `to` made of row `of` and of w words of any list
@@ -210,3 +219,7 @@ module _ (w n i k : ℕ) (m : List ℕ) (hi : i < n) (hk : k < n) (hm : n * w �
 
   pub rest_swapped : drop (n * w) (paste (paste m (i * w) (part (k * w) w m) w) (k * w) (part (i * w) w m) w) ≡ drop (n * w) m
   rest_swapped = rest_paste w n k Q (part (i * w) w m) hk (omega (arith, lQ)) (words_of_row i hi) ∙ rest_paste w n i m (part (k * w) w m) hi hm (words_of_row k hk)
+
+-- a row exchanged with itself
+pub swap_same : (i k : ℕ) (L : List ℕ) → i ≡ k → L ≡ swapped i k L
+swap_same i k L e = sym (ap (λ (x : ℕ). set (set L i (row L x)) x (row L i)) (sym e) ∙ set-set L i (row L i) (row L i) ∙ set-get_or L i 0)

@@ -10,5 +10,5 @@ returns g c =
     let kept =
     kept_over {P = MutBor g.row.W.Denot × Bor (List ℕ)} _
     (λ p q. Keeps (g.W.Write.contents p.0.now) (g.W.Write.contents q.0.now) × (q.1 ≡ p.1) × (q.0.ghost_name ≡ p.0.ghost_name))
-    (λ p. search rules) (λ p q e v k t. search rules) tried.0 _ _ tried.2 in
-    search (rules, kept, tried.3)
+    (λ p. search rules) (λ p q e v k t. search rules) tried.0 _ _ tried.3 in
+    search (rules, kept, tried.4)
